@@ -1,0 +1,103 @@
+-- Words in bytes and back.
+-- Assumes nothing.
+use mathlib.Core.Path.{_≡_, refl, sym, ap, _∙_}
+use mathlib.Core.List.{List, [], _∷_, _++_, append-nil, append-assoc, flatMap}
+use Prim.Native.Nat.{ℕ, zero, suc, _+_, _*_, _/_, _%_, _^_, _≤_, _<_}
+use native.Mathlib.Nat.{pow-suc, pow-le-pow-right}
+use native.Mathlib.Omega.{arith}
+use lib.ListN.{length, getD, take, drop, replicate, length-append, length-replicate, length-drop}
+use lib.Seq.{drop-cons, drop-drop, take-at, take-append-le, drop-append-le, drop-append-add}
+use Rattle.blocks.specs.Block.{wordBytes, blockBytes, payloadWords, bytesOf, numberOf, wordAt, payload, block}
+
+pub bytes-length : (n w : ℕ) → length (bytesOf n w) ≡ n
+unfolding bytesOf
+bytes-length zero w = refl
+bytes-length (suc n) w = ap suc (bytes-length n (w / 256))
+
+-- a number that n bytes hold comes back
+pub bytes-number : (n w : ℕ) → w < 256 ^ n → numberOf (bytesOf n w) ≡ w
+unfolding bytesOf numberOf
+bytes-number zero w l = omega arith
+bytes-number (suc n) w l =
+    let h : w < 256 ^ n * 256 = rw pow-suc at l in
+    rw (bytes-number n (w / 256) (omega arith)) (omega arith)
+
+-- and so do bytes
+pub number-bytes : (bs : List ℕ) → ((k : ℕ) → getD bs k 0 < 256) → bytesOf (length bs) (numberOf bs) ≡ bs
+unfolding bytesOf numberOf
+number-bytes [] h = refl
+number-bytes (b ∷ bs) h =
+    let l : b < 256 = h 0 in
+    let p : (b + 256 * numberOf bs) % 256 ≡ b = omega arith in
+    let q : (b + 256 * numberOf bs) / 256 ≡ numberOf bs = omega arith in
+    rw (p, q, number-bytes bs (λ k. h (suc k)))
+
+-- a byte more in front, and the room for it
+pub number-more : (bs : List ℕ) (i n : ℕ) → i < length bs → numberOf (take (suc n) (drop i bs)) ≡ getD bs i 0 + 256 * numberOf (take n (drop (suc i) bs))
+unfolding numberOf
+number-more bs i n h = rw (drop-cons bs i 0 h)
+
+pub room-more : (n b w : ℕ) → b < 256 → w < 256 ^ n → b + 256 * w < 256 ^ suc n
+room-more n b w hb hw = rw pow-suc (omega arith)
+
+pub room-seven : (n w : ℕ) → n < wordBytes → w < 256 ^ n → w < 2 ^ 56
+room-seven n w h hw = let p : 256 ^ n ≤ 256 ^ 7 = pow-le-pow-right {n = 256} (omega arith) {i = n} {j = 7} (omega arith) in omega arith
+
+-- the bytes of words
+
+abbrev pub bytesOfAll : List ℕ → List ℕ
+bytesOfAll = flatMap (bytesOf wordBytes)
+
+pub bytes-all-append : (xs ys : List ℕ) → bytesOfAll (xs ++ ys) ≡ bytesOfAll xs ++ bytesOfAll ys
+unfolding flatMap
+bytes-all-append [] ys = refl
+bytes-all-append (x ∷ xs) ys = rw (bytes-all-append xs ys) (sym (append-assoc (bytesOf wordBytes x) (bytesOfAll xs) (bytesOfAll ys)))
+
+pub bytes-all-one : (x : ℕ) → bytesOfAll (x ∷ []) ≡ bytesOf wordBytes x
+unfolding flatMap
+bytes-all-one x = append-nil (bytesOf wordBytes x)
+
+pub bytes-all-length : (ws : List ℕ) → length (bytesOfAll ws) ≡ length ws * wordBytes
+unfolding flatMap
+bytes-all-length [] = omega arith
+bytes-all-length (w ∷ ws) = omega (arith, length-append (bytesOf wordBytes w) (bytesOfAll ws), bytes-length wordBytes w, bytes-all-length ws)
+
+-- word k from a place on is the word k places further
+pub word-from : (bs : List ℕ) (at k : ℕ) → wordAt (drop (at + k * wordBytes) bs) 0 ≡ wordAt (drop at bs) k
+word-from bs at k = rw (drop-drop (k * wordBytes) at bs)
+
+-- words of joined bytes
+pub word-left : (xs ys : List ℕ) (k : ℕ) → k * wordBytes + wordBytes ≤ length xs → wordAt (xs ++ ys) k ≡ wordAt xs k
+word-left xs ys k l =
+    rw (
+      drop-append-le (k * wordBytes) xs ys (omega arith),
+      take-append-le wordBytes (drop (k * wordBytes) xs) ys (rw length-drop (omega arith)),
+    )
+
+word-next : (w : ℕ) (ys : List ℕ) (k : ℕ) → wordAt (bytesOf wordBytes w ++ ys) (suc k) ≡ wordAt ys k
+word-next w ys k =
+    let z : suc k * wordBytes ≡ length (bytesOf wordBytes w) + k * wordBytes = omega (arith, bytes-length wordBytes w) in
+    rw (z, drop-append-add (bytesOf wordBytes w) ys (k * wordBytes))
+
+pub word-at : (ws : List ℕ) (k : ℕ) → k < length ws → getD ws k 0 < 2 ^ 64 → wordAt (bytesOfAll ws) k ≡ getD ws k 0
+unfolding flatMap
+word-at [] k l h = absurd (omega arith)
+word-at (w ∷ ws) zero l h =
+    rw (take-at (bytesOf wordBytes w) (bytesOfAll ws) wordBytes (bytes-length wordBytes w)) (bytes-number wordBytes w h)
+word-at (w ∷ ws) (suc k) l h = word-next w (bytesOfAll ws) k ∙ word-at ws k (omega arith) h
+
+-- the words of a block
+
+pub getD-padded : (ws : List ℕ) (n k : ℕ) → getD (ws ++ replicate n 0) k 0 ≡ getD ws k 0
+getD-padded [] zero k = refl
+getD-padded [] (suc n) zero = refl
+getD-padded [] (suc n) (suc k) = getD-padded [] n k
+getD-padded (w ∷ ws) n zero = refl
+getD-padded (w ∷ ws) n (suc k) = getD-padded ws n k
+
+pub payload-length : (ws : List ℕ) → length ws ≤ payloadWords → length (payload ws) ≡ payloadWords
+payload-length ws l = rw (length-append, length-replicate) (omega arith)
+
+pub block-length : (ws : List ℕ) → length ws ≤ payloadWords → length (block ws) ≡ blockBytes
+unfolding block
+block-length ws l = rw (bytes-all-length, length-append, payload-length ws l)

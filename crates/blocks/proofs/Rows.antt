@@ -1,0 +1,132 @@
+-- The words of a path's two blocks, as the code has them and as the definition says them.
+-- Assumes nothing.
+use mathlib.Core.Path.{_≡_, refl, sym, ap, _∙_}
+use mathlib.Core.List.{List, [], _∷_, _++_, append-assoc, append-nil, flatMap}
+use Prim.Native.Nat.{ℕ, zero, suc, _+_, _-_, _*_, _<_, _≤_}
+use native.Mathlib.Numerals.{add-one, unary-clauses}
+use native.Mathlib.Nat.{zero-sub}
+use native.Mathlib.Omega.{arith}
+use lib.ListN.{length, getD, set, take, drop, replicate, length-append, length-replicate, length-map, length-set, drop-of-length-le}
+use lib.Seq.{sets, sets-eq, drop-cons, take-at, take-suc-set, take-all, drop-append-le, drop-append-add}
+use Rattle.boxes.specs.Boxes.{_⋯_, lows, highs}
+use Rattle.boxes.specs.Cuts.{boxIn}
+use Rattle.boxes.proofs.TwoLists.{lows-in, highs-in, length-in, at-in}
+use Rattle.listing.specs.Listing.{Path}
+use Rattle.listing.specs.Numbers.{kindNumber, reasonWord}
+use Rattle.blocks.specs.Block.{blockBytes, payloadWords, payload, block}
+use Rattle.blocks.specs.Record.{pathBytes, room, padded, exitWord, firstWords, ends, secondWords, recordOf}
+use Rattle.blocks.specs.Writing.{put, pathIn}
+use Rattle.blocks.specs.declared.record.Ended.{Ended}
+use Rattle.blocks.proofs.Bytes.{payload-length, block-length}
+use Rattle.blocks.proofs.Written.{two-blocks}
+
+-- the first block
+
+pub padded-length : (ws : List ℕ) → length ws ≤ room → length (padded ws) ≡ room
+padded-length ws l = rw (length-append, length-replicate) (omega arith)
+
+pub first-length : (n : ℕ) (p : Path) → length (p .box) ≤ room → length (firstWords n p) ≡ 25
+unfolding firstWords
+first-length n p l =
+    let a : length (lows (p .box)) ≤ room = rw length-map l in
+    let b : length (highs (p .box)) ≤ room = rw length-map l in
+    simp (length-append, padded-length (lows (p .box)) a, padded-length (highs (p .box)) b, length-replicate) (omega arith)
+
+drop-zeros : (n m : ℕ) → drop n (replicate {A = ℕ} m 0) ≡ replicate (m - n) 0
+drop-zeros zero m = simp unary-clauses
+drop-zeros (suc n) zero = rw zero-sub
+drop-zeros (suc n) (suc m) = simp unary-clauses (drop-zeros n m)
+
+-- the inputs' words, put where there were zeros
+inputs-put : (front rest ws : List ℕ) (at : ℕ) → length front ≡ at → length ws ≤ room → sets (front ++ (replicate room 0 ++ rest)) at ws ≡ front ++ (padded ws ++ rest)
+inputs-put front rest ws at e few =
+    let z : length (replicate {A = ℕ} room 0) ≡ room = length-replicate {A = ℕ} room 0 in
+    let fits : at + length ws ≤ length (front ++ (replicate room 0 ++ rest)) = rw (length-append, length-append) (omega arith) in
+    sets-eq ws (front ++ (replicate room 0 ++ rest)) at fits
+    ∙ rw (
+      take-at front (replicate room 0 ++ rest) at e,
+      ← e,
+      drop-append-add front (replicate room 0 ++ rest) (length ws),
+      drop-append-le (length ws) (replicate room 0) rest (omega arith),
+      drop-zeros,
+      append-assoc front ws,
+      append-assoc ws,
+    )
+
+module _ (p : Ended) (ls hs rls rhs : List ℕ) (few : length ls ≤ room) (same : length ls ≡ length hs) (registers : length rls ≡ length rhs) where
+  abbrev front : List ℕ
+  front = p .number ∷ kindNumber (p .end) ∷ p .pc ∷ p .steps ∷ length ls ∷ []
+
+  abbrev back : List ℕ
+  back = exitWord (p .end) (getD rls 10 0) ∷ exitWord (p .end) (getD rhs 10 0) ∷ reasonWord (p .end) ∷ p .reads ∷ []
+
+  abbrev zeros : List ℕ
+  zeros = replicate room 0
+
+  abbrev unused : List ℕ
+  unused = replicate (payloadWords - 25) 0
+
+  first-are : firstWords (p .number) (pathIn p ls hs rls rhs) ≡ front ++ (padded ls ++ (padded hs ++ back))
+  unfolding firstWords
+  first-are = rw (lows-in ls hs same, highs-in ls hs same, length-in ls hs same, at-in rls rhs registers 10)
+
+  first-is : sets (sets (front ++ (zeros ++ (zeros ++ (back ++ unused)))) 5 ls) 13 hs ≡ payload (firstWords (p .number) (pathIn p ls hs rls rhs))
+  first-is =
+      let n : length (front ++ padded ls) ≡ 13 = rw (length-append, padded-length ls few) in
+      ap (λ (l : List ℕ). sets l 13 hs) (inputs-put front (zeros ++ (back ++ unused)) ls 5 refl few ∙ sym (append-assoc front (padded ls) (zeros ++ (back ++ unused))))
+      ∙ inputs-put (front ++ padded ls) (back ++ unused) hs 13 n (omega arith)
+      ∙ rw (first-length (p .number) (pathIn p ls hs rls rhs) (rw (length-in ls hs same) few), first-are) (simp append-assoc)
+
+  -- the words that are stored, each by what it is
+  pub first-made : {k x y z : ℕ} {a b : List ℕ} → k ≡ kindNumber (p .end) → x ≡ exitWord (p .end) (getD rls 10 0) → y ≡ exitWord (p .end) (getD rhs 10 0)
+      → z ≡ reasonWord (p .end)
+      → a ≡ sets (p .number ∷ k ∷ p .pc ∷ p .steps ∷ length ls ∷ (zeros ++ (zeros ++ (x ∷ y ∷ z ∷ p .reads ∷ unused)))) 5 ls → b ≡ sets a 13 hs
+      → b ≡ payload (firstWords (p .number) (pathIn p ls hs rls rhs))
+  first-made kind low high reason first second = second ∙ rw (first, kind, low, high, reason) first-is
+
+-- the second block: two stores more
+
+two-more : (ws : List ℕ) (i x y : ℕ) (z : List ℕ) → suc i < length ws → take (suc (suc i)) (set (set ws i x) (suc i) y) ++ z ≡ take i ws ++ (x ∷ y ∷ z)
+two-more ws i x y z h =
+    rw (take-suc-set (set ws i x) (suc i) y (rw length-set h), take-suc-set ws i x (omega arith))
+    (append-assoc (take i ws ++ (x ∷ [])) (y ∷ []) z ∙ append-assoc (take i ws) (x ∷ []) (y ∷ z))
+
+module _ (ws ls hs : List ℕ) (r : ℕ) (some : 1 ≤ r) (n : length ws ≡ payloadWords) (l : length ls ≡ 32) (h : length hs ≡ 32) where
+  pub pair-more : r < 32 →
+      take (2 * (r + 1) - 1) (set (set ws (2 * r - 1) (getD ls r 0)) (2 * r) (getD hs r 0)) ++ ends (drop (r + 1) (boxIn ls hs))
+      ≡ take (2 * r - 1) ws ++ ends (drop r (boxIn ls hs))
+  unfolding flatMap
+  pair-more more =
+      let a : 2 * (r + 1) - 1 ≡ suc (suc (2 * r - 1)) = omega arith in
+      let b : 2 * r ≡ suc (2 * r - 1) = omega arith in
+      let same : length ls ≡ length hs = omega arith in
+      let rest : List ℕ = ends (drop (suc r) (boxIn ls hs)) in
+      let stored : ℕ → List ℕ = λ k. set (set ws (2 * r - 1) (getD ls r 0)) k (getD hs r 0) in
+      rw (drop-cons (boxIn ls hs) r (0 ⋯ 0) (omega (arith, length-in ls hs same)), at-in ls hs same r, add-one r)
+      (ap (λ (k : ℕ). take k (stored (2 * r)) ++ rest) (rw (add-one r) at a)
+      ∙ ap (λ (k : ℕ). take (suc (suc (2 * r - 1))) (stored k) ++ rest) b
+      ∙ two-more ws (2 * r - 1) (getD ls r 0) (getD hs r 0) rest (omega arith))
+
+  pub pairs-done : 32 ≤ r → take (2 * r - 1) ws ++ ends (drop r (boxIn ls hs)) ≡ ws
+  unfolding flatMap
+  pairs-done done =
+      let e : length (boxIn ls hs) ≡ length ls = length-in ls hs (omega arith) in
+      rw (drop-of-length-le (boxIn ls hs) {i = r} (omega arith), take-all (2 * r - 1) ws (omega arith)) (append-nil ws)
+
+-- the two blocks, one behind the other, are the path's record
+
+block-payload : (ws : List ℕ) → length ws ≤ payloadWords → block (payload ws) ≡ block ws
+unfolding block
+block-payload ws l = rw (payload-length ws l, append-nil (payload ws))
+
+module _ (l : List ℕ) (at n : ℕ) (p : Path) (inputs : length (p .box) ≤ room) (fits : at + pathBytes ≤ length l) where
+  pub path-written : {first second bs bs′ : List ℕ} → length second ≤ payloadWords → first ≡ payload (firstWords n p) → second ≡ n ∷ ends (drop 1 (p .registers))
+      → bs ≡ put l at (block first) → bs′ ≡ put bs (at + blockBytes) (block second) → bs′ ≡ take at l ++ recordOf n p ++ drop (at + pathBytes) l
+  unfolding recordOf secondWords put
+  path-written {first} {second} few e f a b =
+      let ws = firstWords n p in
+      let n₁ : length ws ≤ payloadWords = omega (arith, first-length n p inputs) in
+      let n₂ : length first ≤ payloadWords = rw (e, payload-length ws n₁) (omega arith) in
+      let k : block first ++ block second ≡ recordOf n p = rw (e, f, block-payload ws n₁) in
+      let m : length (recordOf n p) ≡ pathBytes = ap length (sym k) ∙ rw (length-append, block-length first n₂, block-length second few) in
+      two-blocks l at first second n₂ fits a b ∙ rw (k, m)

@@ -1,0 +1,83 @@
+-- `blocks::block::put_block` meets its contract: the first k words of the payload are written, and the check of the others from s on is the whole check.
+-- Assumes nothing.
+use mathlib.Core.Path.{_≡_, refl, sym, _∙_}
+use mathlib.Core.List.{flatMap}
+use Prim.Native.Nat.{zero-le, _-_, _≤_}
+use native.Mathlib.Omega.{arith}
+use borrow.Author.Needs.{needs}
+use denote.Ref.{now}
+use lib.ListN.{length, take, drop}
+use Rattle.blocks.specs.Block.{payloadWords, checkFrom, check, payload}
+use Rattle.blocks.specs.Writing.{put}
+use Rattle.blocks.proofs.Bytes.{bytesOfAll}
+use Rattle.blocks.proofs.Written.{word-turn, check-turn, block-done}
+use Rattle.blocks.proofs.Puts.{put-none}
+use Rattle.blocks.proofs.block.put_block.Statement.{statement}
+use Rattle.blocks.proofs.block.put_block.Tie as tie
+
+abbrev Inv-loop : tie.InvT-loop
+Inv-loop bytes₀ at words s₀ k₀ bytes s k =
+    (k ≤ payloadWords) × (length bytes ≡ length bytes₀) × (bytes ≡ put bytes₀ at (bytesOfAll (take k (payload words)))) × (checkFrom s (drop k (payload words)) ≡ check (payload words))
+
+abbrev μ-loop : tie.MeasureT-loop
+μ-loop bytes₀ at words s₀ k₀ bytes s k = payloadWords - k
+
+loop-holds : tie.Need-loop-holds Inv-loop μ-loop
+unfolding flatMap
+loop-holds c = (zero-le, refl, sym (put-none _ _), refl)
+
+word-or-zero-requires : tie.Need-word-or-zero-requires Inv-loop μ-loop
+word-or-zero-requires c κs = search needs
+
+mul-put-word : tie.Need-mul-put-word Inv-loop μ-loop
+mul-put-word c = omega arith
+
+add-put-word : tie.Need-add-put-word Inv-loop μ-loop
+add-put-word c = omega arith
+
+put-word-requires : tie.Need-put-word-requires Inv-loop μ-loop
+put-word-requires c κs = omega arith
+
+turned-requires : tie.Need-turned-requires Inv-loop μ-loop
+turned-requires c κs = search needs
+
+wrapping-add-u64-requires : tie.Need-wrapping-add-u64-requires Inv-loop μ-loop
+wrapping-add-u64-requires c κs = search needs
+
+add-k : tie.Need-add-k Inv-loop μ-loop
+add-k c = omega arith
+
+loop-less : tie.Need-loop-less Inv-loop μ-loop
+loop-less c = omega arith
+
+loop-again : tie.Need-loop-again Inv-loop μ-loop
+loop-again c =
+    let first = c .before .before .before .before .before .before .before .before .before .before .before in
+    let l = c .before .before .before .before .before .before .before .before .loop in
+    let put = c .before .before .before .before .put-word in
+    let ws = now (first .args .words) in
+    let w = c .before .before .before .before .before .before .word-or-zero in (
+      omega arith,
+      put .kept .0 ∙ l .inv .1,
+      word-turn ws (first .pre .1) (l .k) (w .result) (omega arith) (w .ensures) (now (first .args .bytes)) (first .args .at) (first .pre .0) (l .inv .2) (put .ensures),
+      check-turn ws (first .pre .1) (l .k) (w .result) (omega arith) (w .ensures) (l .s) (c .before .turned .result) (c .before .turned .ensures) (c .wrapping-add-u64 .ensures) ∙ l .inv .3,
+    )
+
+add-put-word-2 : tie.Need-add-put-word-2 Inv-loop μ-loop
+add-put-word-2 c = omega arith
+
+put-word-requires-2 : tie.Need-put-word-requires-2 Inv-loop μ-loop
+put-word-requires-2 c κs = omega arith
+
+same-length : tie.Need-same-length Inv-loop μ-loop
+same-length c = c .before .before .put-word2 .kept .0 ∙ c .before .before .before .before .before .loop .inv .1
+
+returns : tie.Need-returns Inv-loop μ-loop
+returns c =
+    let l = c .before .before .before .before .before .loop in
+    let first = c .before .before .before .before .before .before .before .before in
+    c .before .before .put-word2 .ensures
+    ∙ rw (l .inv .2) (block-done (now (first .args .bytes)) (first .args .at) (now (first .args .words)) (l .k) (l .s) (first .pre .1) (first .pre .0) (omega arith) (l .inv .3))
+
+pub put-block-spec : {M : Type 1} → statement M
+put-block-spec = tie.close (tie.spec Inv-loop μ-loop loop-holds word-or-zero-requires mul-put-word add-put-word put-word-requires turned-requires wrapping-add-u64-requires add-k loop-less loop-again add-put-word-2 put-word-requires-2 same-length returns)

@@ -1,0 +1,19 @@
+-- `blocks::block::turned` meets its contract: a word turned left by one bit, by its lower bits and its top bit.
+-- Assumes nothing.
+use native.Mathlib.Omega.{arith}
+use borrow.Author.Needs.{needs}
+use Rattle.blocks.proofs.Check.{parts-fit, top-bit}
+use Rattle.blocks.proofs.block.turned.Statement.{statement}
+use Rattle.blocks.proofs.block.turned.Tie as tie
+
+mul-result : tie.Need-mul-result
+mul-result c = search needs
+
+add-result : tie.Need-add-result
+add-result c = record { fits = parts-fit _ _ (omega arith) (top-bit (c .args .s) (search needs)) }
+
+returns : tie.Need-returns
+returns c = search needs
+
+pub turned-spec : {M : Type 1} → statement M
+turned-spec = tie.close (tie.spec mul-result add-result returns)

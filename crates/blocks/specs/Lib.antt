@@ -1,0 +1,9 @@
+-- What a reader must believe of blocks.
+--     Block       words in bytes, the check, a block
+--     Record      a path's two blocks as they are written
+--     Reading     a path's two blocks as they are read
+--     Writing     bytes put into a list, and the path that the code is given, for the contracts
+pub mod Block
+pub mod Record
+pub mod Reading
+pub mod Writing

@@ -1,0 +1,17 @@
+-- What a reader must believe of a call.
+--     Call        what is lent, the questions at the door, what a call leaves
+--     Door        what the code's contracts use beside these
+--     Engine      an engine, the contract of its calls, histories of calls
+--     Refuses     demand 1: refusals and their causes
+--     Faithful    demand 2: what a path says of the plain machine
+--     Complete    the listing of a job as a whole
+--     Reported    demand 2 of the bytes of a report
+--     Together    demand 3: a list of calls on one memory and one table
+pub mod Call
+pub mod Door
+pub mod Engine
+pub mod Refuses
+pub mod Faithful
+pub mod Complete
+pub mod Reported
+pub mod Together

@@ -1,0 +1,156 @@
+-- Where none of the points 2 to 9 ends a group, every choice in its box is followed.
+-- Assumes nothing.
+use mathlib.Core.Path.{_≡_, refl, sym, _∙_}
+use mathlib.Core.Logic.{_⊎_, inl, inr, ⊎-elim}
+use mathlib.Core.Bool.{Bool, true, false, not, _&&_, _||_, true≢false, and-eq-true-iff}
+use mathlib.Core.List.{List, [], _∷_, _++_}
+use mathlib.Core.Option.{none}
+use Prim.Native.Nat.{ℕ, _%_, _<_}
+use native.Mathlib.Omega.{arith}
+use lib.Dec.{eqb, ltb}
+use lib.IntN.{ℤ}
+use borrow.Author.Tests.{eqb-true, eqb-false, ltb-false, not-false}
+use Rattle.boxes.specs.Boxes.{Choice, Inside}
+use Rattle.boxes.proofs.Lists.{by-test}
+use Rattle.boxes.proofs.OneInput.{low-is, fixed-constant}
+use Rattle.riscu.specs.Machine.{State, reg, offset}
+use Rattle.riscu.specs.declared.Operation.{Operation}
+use Rattle.riscu.specs.declared.Operation.the-variants.{Add, Sub, Mul, Divu, Remu, Sltu}
+use Rattle.riscu.specs.declared.Instruction.{Instruction}
+use Rattle.riscu.specs.declared.Instruction.the-variants.{Lui, Addi, Register, Ld, Sd, Beq, Jal, Jalr, Ecall}
+use Rattle.listing.specs.Group.{Job, Group, after, viewOf}
+use Rattle.listing.specs.Ending.{Point, first, badAddress, divisor, operationPoints, points}
+use Rattle.listing.specs.declared.End.{End}
+use Rattle.corners.proofs.Operations.{EitherOpen}
+use Rattle.corners.proofs.Tame.{Same, OneSame}
+use Rattle.corners.proofs.Smooth.{DataAddress, Defined, Completes, Settled}
+
+-- tests that fail
+
+and-false : (t u : Bool) → t && u ≡ false → (t ≡ false) ⊎ (u ≡ false)
+and-false true u e = inr e
+and-false false u e = inl refl
+
+pub or-false : (t u : Bool) → t || u ≡ false → (t ≡ false) × (u ≡ false)
+or-false true u e = (e, cc)
+or-false false u e = (refl, e)
+
+address-good : (a : ℕ) → badAddress a ≡ false → DataAddress a
+address-good a e =
+    let (p, q) = or-false (not (eqb (a % 8) 0)) (ltb 4088 a) e in
+    (eqb-true (a % 8) 0 (not-false (eqb (a % 8) 0) p), ltb-false 4088 a q)
+
+-- the tests of a read that no point ends
+record ReadTests (o₁₇ o₁₀ o₁₁ o₁₂ r z e bad : Bool) : Type 0 where
+  open₁₇ : o₁₇ ≡ false
+  open₁₀ : o₁₀ ≡ false
+  open₁₁ : o₁₁ ≡ false
+  open₁₂ : o₁₂ ≡ false
+  read : r ≡ true
+  zero₁₀ : z ≡ true
+  eight₁₂ : e ≡ true
+  good : bad ≡ false
+
+read-tests : (o₁₇ o₁₀ o₁₁ o₁₂ r x z e bad : Bool) → o₁₇ || r && (o₁₀ || o₁₁ || o₁₂) ≡ false → not (r || x) || r && not (z && e) ≡ false
+    → r && bad ≡ false → x ≡ false → ReadTests o₁₇ o₁₀ o₁₁ o₁₂ r z e bad
+read-tests o₁₇ o₁₀ o₁₁ o₁₂ true x z e bad h₁ h₂ h₃ h₄ =
+    let (p, q) = or-false o₁₇ (o₁₀ || o₁₁ || o₁₂) h₁ in
+    let (t, v) = or-false (o₁₀ || o₁₁) o₁₂ q in
+    let (s, u) = or-false o₁₀ o₁₁ t in
+    let (y, w) = and-eq-true-iff z e .0 (not-false (z && e) h₂) in
+    record { open₁₇ = p; open₁₀ = s; open₁₁ = u; open₁₂ = v; read = refl; zero₁₀ = y; eight₁₂ = w; good = h₃ }
+read-tests o₁₇ o₁₀ o₁₁ o₁₂ false x z e bad h₁ h₂ h₃ h₄ = absurd (true≢false (rw h₄ at h₂))
+
+-- none of the points applies
+pub first-none : (p : Point) (ps : List Point) → first (p ∷ ps) ≡ none → (p .applies ≡ false) × (first ps ≡ none)
+unfolding first
+first-none p ps e = by-test (p .applies) (λ t. (cc, cc)) (λ t. (t, rw t at e))
+
+module _ (j : Job) (g : Group) where
+  abbrev pub states : Choice → State
+  states = after j (g .steps)
+
+  pub closed : (f : State → ℕ) → viewOf j g .isOpen f ≡ false → Same (g .box) (λ c. f (states c))
+  closed f e = fixed-constant (λ c. f (states c)) (g .box) (not-false _ e)
+
+  pub lowest-at : (f : State → ℕ) → Same (g .box) (λ c. f (states c)) → (c : Choice) → Inside c (g .box)
+      → viewOf j g .lowest f ≡ f (states c)
+  lowest-at f e c h = low-is (λ c. f (states c)) (g .box) c h (λ d m. omega (arith, e c d h m))
+
+  pub not-both : {E : Type 0} (a b : ℕ) → E → viewOf j g .isOpen (reg a) && viewOf j g .isOpen (reg b) ≡ false
+      → OneSame E (g .box) (λ c. reg a (states c)) (λ c. reg b (states c))
+  not-both a b e h =
+      ⊎-elim (λ p. inr (e, closed (reg a) p)) (λ p. inl (closed (reg b) p))
+      (and-false (viewOf j g .isOpen (reg a)) (viewOf j g .isOpen (reg b)) h)
+
+  -- the divisor is fixed, and not 0 for every choice
+  divisor-followed : (b : ℕ) (ps : List Point) → first (divisor (viewOf j g) b ++ ps) ≡ none
+      → Same (g .box) (λ c. reg b (states c)) × ((c : Choice) → Inside c (g .box) → 0 < reg b (states c))
+  divisor-followed b ps e =
+      let (p, d) = first-none _ _ e in
+      let q : ¬ (viewOf j g .lowest (reg b) ≡ 0) = eqb-false _ _ (first-none _ _ d .0) in
+      let s = closed (reg b) p in
+      (s, λ c m. omega (arith, lowest-at (reg b) s c m))
+
+  operation-followed : (op : Operation) (a b : ℕ) → first (operationPoints (viewOf j g) op a b) ≡ none
+      → OneSame (EitherOpen op) (g .box) (λ c. reg a (states c)) (λ c. reg b (states c))
+      × ((c : Choice) → Inside c (g .box) → Defined op (reg b (states c)))
+  unfolding operationPoints
+  operation-followed Add a b e = (not-both a b tt (first-none _ _ e .0), λ c m. tt)
+  operation-followed Sub a b e = (not-both a b tt (first-none _ _ e .0), λ c m. tt)
+  operation-followed Mul a b e = (not-both a b tt (first-none _ _ e .0), λ c m. tt)
+  operation-followed Divu a b e = let (s, d) = divisor-followed b _ e in (inl s, d)
+  operation-followed Remu a b e = let (s, d) = divisor-followed b _ e in (inl s, d)
+  operation-followed Sltu a b e = (not-both a b tt (first-none _ _ e .0), λ c m. tt)
+
+  -- the base is fixed, and the address is good for every choice
+  base-followed : (r : ℕ) (imm : ℤ) (x y : End)
+      → first (record { applies = viewOf j g .isOpen (reg r); end = x }
+      ∷ record { applies = badAddress (viewOf j g .lowest (offset r imm)); end = y } ∷ []) ≡ none
+      → Same (g .box) (λ c. reg r (states c)) × ((c : Choice) → Inside c (g .box) → DataAddress (offset r imm (states c)))
+  base-followed r imm x y e =
+      let (p, d) = first-none _ _ e in
+      let s = closed (reg r) p in
+      let o : Same (g .box) (λ c. offset r imm (states c)) = λ c d m n. cc (s c d m n) in
+      let a = address-good (viewOf j g .lowest (offset r imm)) (first-none _ _ d .0) in
+      (s, λ c m. rw (lowest-at (offset r imm) o c m) at a)
+
+  read-followed : first (points (viewOf j g) Ecall) ≡ none
+      → Same (g .box) (λ c. reg 11 (states c)) × ((c : Choice) → Inside c (g .box) → Completes Ecall (states c))
+  unfolding points
+  read-followed e =
+      let (h₁, e₁) = first-none _ _ e in
+      let (h₂, e₂) = first-none _ _ e₁ in
+      let (h₃, e₃) = first-none _ _ e₂ in
+      let open₁ : ℕ → Bool = λ r. viewOf j g .isOpen (reg r) in
+      let value : ℕ → ℕ = λ r. viewOf j g .lowest (reg r) in
+      let t = read-tests (open₁ 17) (open₁ 10) (open₁ 11) (open₁ 12) (eqb (value 17) 63) (eqb (value 17) 93) (eqb (value 10) 0)
+      (eqb (value 12) 8)
+      (badAddress (value 11)) h₁ h₂ h₃ (first-none _ _ e₃ .0) in
+      let is : (r x : ℕ) → open₁ r ≡ false → eqb (value r) x ≡ true → (c : Choice) → Inside c (g .box) → reg r (states c) ≡ x =
+      λ r x p q c m. sym (lowest-at (reg r) (closed (reg r) p) c m) ∙ eqb-true (value r) x q in
+      let s = closed (reg 11) (t .open₁₁) in (
+        s,
+        λ c m. (
+          is 17 63 (t .open₁₇) (t .read) c m,
+          is 10 0 (t .open₁₀) (t .zero₁₀) c m,
+          is 12 8 (t .open₁₂) (t .eight₁₂) c m,
+          rw (lowest-at (reg 11) s c m) at (address-good (value 11) (t .good)),
+        ),
+      )
+
+  pub points-followed : (i : Instruction) → first (points (viewOf j g) i) ≡ none
+      → Settled (g .box) states i × ((c : Choice) → Inside c (g .box) → Completes i (states c))
+  unfolding points
+  points-followed (Lui rd imm) e = (tt, λ c m. tt)
+  points-followed (Addi rd rs1 imm) e = (tt, λ c m. tt)
+  points-followed (Register op rd rs1 rs2) e =
+      by-test (eqb rd 0)
+      (λ t. let z = eqb-true rd 0 t in (inl z, λ c m. inl z))
+      (λ t. let (o, p) = operation-followed op rs1 rs2 (rw t at e) in (inr o, λ c m. inr (p c m)))
+  points-followed (Ld rd rs1 imm) e = base-followed rs1 imm _ _ e
+  points-followed (Sd rs1 rs2 imm) e = base-followed rs1 imm _ _ e
+  points-followed (Beq rs1 rs2 imm) e = (not-both rs1 rs2 tt (first-none _ _ e .0), λ c m. tt)
+  points-followed (Jal rd imm) e = (tt, λ c m. tt)
+  points-followed (Jalr rd rs1 imm) e = (closed (reg rs1) (first-none _ _ e .0), λ c m. tt)
+  points-followed Ecall e = read-followed e

@@ -1,0 +1,282 @@
+-- Uniform runs: after smooth steps all choices of a box share pc and inputs read, and each register and memory word hangs on the
+-- one input that its tag names, at most.
+-- Assumes nothing.
+use mathlib.Core.Path.{_≡_, refl, sym, _∙_}
+use mathlib.Core.Logic.{_⊎_, inl, inr, ⊎-elim}
+use mathlib.Core.Bool.{Bool, true, false, cond, _&&_}
+use mathlib.Core.List.{List}
+use Prim.Native.Nat.{ℕ, zero, suc, _/_, _≤_, _<_}
+use native.Mathlib.Omega.{arith}
+use lib.Dec.{eqb, ltb}
+use lib.ListN.{length, getD, set, replicate, length-set, length-replicate}
+use borrow.Author.Tests.{eqb-false}
+use Rattle.boxes.specs.Boxes.{Choice, Box, Proper, lows, highs, Inside}
+use Rattle.boxes.specs.Cuts.{OneInput}
+use Rattle.boxes.proofs.Lists.{by-test}
+use Rattle.boxes.proofs.Places.{getD-set}
+use Rattle.boxes.proofs.Choices.{lows-inside, inside-at, inside-length}
+use Rattle.boxes.proofs.OneInput.{one-input-constant}
+use Rattle.riscu.specs.Word.{size}
+use Rattle.riscu.specs.Machine.{State, reg, putIn, put, next, following, operate, offset, fetch, step, readInput, readNext, stepDecoded}
+use Rattle.riscu.specs.Machine.{run}
+use Rattle.riscu.specs.declared.Operation.{Operation}
+use Rattle.riscu.specs.declared.Operation.the-variants.{Add}
+use Rattle.riscu.specs.declared.Instruction.{Instruction}
+use Rattle.riscu.specs.declared.Instruction.the-variants.{Lui, Addi, Register, Ld, Sd, Beq, Jal, Jalr, Ecall}
+use Rattle.riscu.specs.declared.Decoded.{Decoded}
+use Rattle.riscu.specs.declared.Decoded.the-variants.{Row, NoRow}
+use Rattle.riscu.proofs.Whole.{Cells, AllWords, Whole, widen-word, start-whole, run-whole}
+use Rattle.listing.specs.Group.{Job, after, sortOf, classOf}
+use Rattle.corners.proofs.Operations.{EitherOpen, comparison-equal}
+use Rattle.corners.proofs.Tame.{Same, OneSame, tagOf, one-input-cong, sort-one-input, comparison-one-input, result-one-input}
+use Rattle.corners.proofs.Smooth.{Settled, Smooth}
+
+-- The tags of a group: the input that each register and each memory word hangs on. They move as the values do.
+
+pub record Tags : Type 0 where
+  pub registers : List ℕ
+  pub memory : List ℕ
+
+abbrev toRegister : ℕ → ℕ → Tags → Tags
+toRegister r i t = record { registers = putIn r i (t .registers); memory = t .memory }
+
+abbrev toMemory : ℕ → ℕ → Tags → Tags
+toMemory k i t = record { registers = t .registers; memory = set (t .memory) k i }
+
+-- the input that the open one of two operands hangs on, from the states at the low and the high corner
+abbrev pub operandTag : ℕ → ℕ → State → State → Tags → ℕ
+operandTag a b l h t = cond (eqb (reg a l) (reg a h)) (getD (t .registers) b 0) (getD (t .registers) a 0)
+
+-- the tags after an instruction, from the states at the low and the high corner
+unfoldable pub tagStep : Choice → Instruction → State → State → Tags → Tags
+tagStep c (Lui rd imm) l h t = toRegister rd 0 t
+tagStep c (Addi rd rs1 imm) l h t = toRegister rd (getD (t .registers) rs1 0) t
+tagStep c (Register op rd rs1 rs2) l h t = toRegister rd (operandTag rs1 rs2 l h t) t
+tagStep c (Ld rd rs1 imm) l h t = toRegister rd (getD (t .memory) (offset rs1 imm l / 8) 0) t
+tagStep c (Sd rs1 rs2 imm) l h t = toMemory (offset rs1 imm l / 8) (getD (t .registers) rs2 0) t
+tagStep c (Beq rs1 rs2 imm) l h t = t
+tagStep c (Jal rd imm) l h t = toRegister rd 0 t
+tagStep c (Jalr rd rs1 imm) l h t = toRegister rd 0 t
+tagStep c Ecall l h t = toRegister 10 0 (cond (ltb (l .reads) (length c)) (toMemory (reg 11 l / 8) (l .reads) t) t)
+
+-- the input that an instruction's class hangs on
+unfoldable pub classTag : Instruction → State → State → Tags → ℕ
+classTag (Lui rd imm) l h t = 0
+classTag (Addi rd rs1 imm) l h t = getD (t .registers) rs1 0
+classTag (Register op rd rs1 rs2) l h t = operandTag rs1 rs2 l h t
+classTag (Ld rd rs1 imm) l h t = 0
+classTag (Sd rs1 rs2 imm) l h t = 0
+classTag (Beq rs1 rs2 imm) l h t = operandTag rs1 rs2 l h t
+classTag (Jal rd imm) l h t = 0
+classTag (Jalr rd rs1 imm) l h t = 0
+classTag Ecall l h t = 0
+
+-- each element hangs on the input that its tag names, at most
+pub record Elements (n : ℕ) (b : Box) (ts : List ℕ) (l : Choice → List ℕ) : Type 0 where
+  pub count : length ts ≡ n
+  pub one : (k : ℕ) → OneInput b (getD ts k 0) (λ c. getD (l c) k 0)
+
+pub record Uniform (b : Box) (s : Choice → State) (t : Tags) : Type 0 where
+  pub pc : Same b (λ c. s c .pc)
+  pub reads : Same b (λ c. s c .reads)
+  pub registers : Elements 32 b (t .registers) (λ c. s c .registers)
+  pub memory : Elements 512 b (t .memory) (λ c. s c .memory)
+
+either : {b : Box} {f g : Choice → ℕ} {i j : ℕ} (t : Bool) → OneInput b i f → OneInput b j g
+    → OneInput b (cond t i j) (λ c. cond t (f c) (g c))
+either true p q = p
+either false p q = q
+
+cond-same : {A : Type 0} (t : Bool) (x : A) → cond t x x ≡ x
+cond-same true x = refl
+cond-same false x = refl
+
+-- an element written, at one place for all choices
+elements-set : {n i : ℕ} {b : Box} {ts : List ℕ} {l : Choice → List ℕ} {p v : Choice → ℕ} (q : ℕ)
+    → ((c : Choice) → Inside c b → length (l c) ≡ n)
+    → ((c : Choice) → Inside c b → p c ≡ q) → OneInput b i v → Elements n b ts l → Elements n b (set ts q i) (λ c. set (l c) (p c) (v c))
+elements-set {n} {i} {b} {ts} {l} {p} {v} q len at o e =
+    record {
+      count = length-set ts q i ∙ e .count;
+      one = λ k.
+          rw (getD-set ts q i k (e .count))
+          (one-input-cong b (λ c h. sym (rw (at c h) (getD-set (l c) q (v c) k (len c h)))) (either (eqb k q && ltb q n) o (e .one k)));
+    }
+
+elements-put : {n i : ℕ} {b : Box} {ts : List ℕ} {l : Choice → List ℕ} {v : Choice → ℕ} (r : ℕ)
+    → ((c : Choice) → Inside c b → length (l c) ≡ n)
+    → OneInput b i v → Elements n b ts l → Elements n b (putIn r i ts) (λ c. putIn r (v c) (l c))
+elements-put r len o e = by-test (eqb r 0) (λ t. rw t e) (λ t. rw t (elements-set r len (λ c h. refl) o e))
+
+uniform-cong : {b : Box} {s s′ : Choice → State} {t : Tags} → ((c : Choice) → Inside c b → s c ≡ s′ c) → Uniform b s t → Uniform b s′ t
+uniform-cong {b} {s} {s′} e u =
+    record {
+      pc = λ c d m n. cc (e c m, e d n, u .pc c d m n);
+      reads = λ c d m n. cc (e c m, e d n, u .reads c d m n);
+      registers = record { count = u .registers .count; one = λ k. one-input-cong b (λ c m. cc (e c m)) (u .registers .one k) };
+      memory = record { count = u .memory .count; one = λ k. one-input-cong b (λ c m. cc (e c m)) (u .memory .one k) };
+    }
+
+module _ {b : Box} (proper : Proper b) {s : Choice → State} {t : Tags} (whole : (c : Choice) → Inside c b → Whole (s c))
+    (u : Uniform b s t) where
+  at-low : {A : Type 0} {f : Choice → A} → Same b f → (c : Choice) → Inside c b → f c ≡ f (lows b)
+  at-low e c h = e c (lows b) h (lows-inside b proper)
+
+  next-pc : Same b (λ c. following (s c))
+  next-pc c d m n = cc (u .pc c d m n)
+
+  -- a register written, a memory word written, and a state with just a register written
+  written : (r : ℕ) {i : ℕ} {v : Choice → ℕ} → OneInput b i v
+      → Elements 32 b (putIn r i (t .registers)) (λ c. putIn r (v c) (s c .registers))
+  written r o = elements-put r (λ c h. whole c h .registers .count) o (u .registers)
+
+  stored : {i : ℕ} {k v : Choice → ℕ} → Same b k → OneInput b i v
+      → Elements 512 b (set (t .memory) (k (lows b)) i) (λ c. set (s c .memory) (k c) (v c))
+  stored {k} e o = elements-set (k (lows b)) (λ c h. whole c h .memory .count) (at-low e) o (u .memory)
+
+  put-uniform : (r : ℕ) {i : ℕ} {v p : Choice → ℕ} → OneInput b i v → Same b p
+      → Uniform b (λ c. record { pc = p c; registers = put r (v c) (s c); memory = s c .memory; reads = s c .reads }) (toRegister r i t)
+  put-uniform r o p = record { pc = p; reads = u .reads; registers = written r o; memory = u .memory }
+
+  constant : {v : Choice → ℕ} → Same b v → OneInput b 0 v
+  constant = one-input-constant b
+
+  -- an operation into a register; register 0 takes none
+  operated : (op : Operation) (rd r : ℕ) {g : Choice → ℕ} {j : ℕ} → OneInput b j g → ((c : Choice) → Inside c b → g c < size)
+      → (rd ≡ 0) ⊎ OneSame (EitherOpen op) b (λ c. reg r (s c)) g → Same b (λ c. cond (eqb rd 0) 0 (sortOf op (reg r (s c)) (g c)))
+      → Uniform b (λ c. next (s c) (put rd (operate op (reg r (s c)) (g c)) (s c)) (s c .memory))
+      (toRegister rd (tagOf b (λ c. reg r (s c)) (getD (t .registers) r 0) j) t)
+  operated op rd r second words o e =
+      by-test (eqb rd 0)
+      (λ z. rw z (record { pc = next-pc; reads = u .reads; registers = u .registers; memory = u .memory }))
+      (λ z.
+      let o′ = ⊎-elim (λ y. absurd (eqb-false rd 0 z y)) (λ x. x) o in
+      put-uniform rd (result-one-input b proper (u .registers .one r) second (λ c h. (whole c h .registers .words r, words c h)) op o′
+      (rw z at e)) next-pc)
+
+  pub step-uniform : (i : Instruction) → Settled b s i → Same b (λ c. classOf i (s c))
+      → Uniform b (λ c. step c i (s c)) (tagStep (lows b) i (s (lows b)) (s (highs b)) t)
+  unfolding step readNext tagStep classOf operate
+  step-uniform (Lui rd imm) h e = put-uniform rd (constant (λ c d m n. refl)) next-pc
+  step-uniform (Addi rd rs1 imm) h e =
+      rw (← cond-same (eqb (reg rs1 (s (lows b))) (reg rs1 (s (highs b)))) (getD (t .registers) rs1 0))
+      (operated Add rd rs1 (one-input-constant b (λ c d m n. refl)) (λ c h. widen-word imm) (inr (inl (λ c d m n. refl))) e)
+  step-uniform (Register op rd rs1 rs2) h e = operated op rd rs1 (u .registers .one rs2) (λ c h. whole c h .registers .words rs2) h e
+  step-uniform (Ld rd rs1 imm) h e =
+      let k : Same b (λ c. offset rs1 imm (s c) / 8) = λ c d m n. cc (h c d m n) in
+      put-uniform rd (one-input-cong b (λ c m. cc (at-low k c m)) (u .memory .one (offset rs1 imm (s (lows b)) / 8))) next-pc
+  step-uniform (Sd rs1 rs2 imm) h e =
+      record {
+        pc = next-pc;
+        reads = u .reads;
+        registers = u .registers;
+        memory = stored (λ c d m n. cc (h c d m n)) (u .registers .one rs2);
+      }
+  step-uniform (Beq rs1 rs2 imm) h e =
+      record {
+        pc =
+            λ c d m n. cc (
+              e c d m n,
+              u .pc c d m n,
+              comparison-equal (reg rs1 (s c)) (reg rs2 (s c)),
+              comparison-equal (reg rs1 (s d)) (reg rs2 (s d)),
+            );
+        reads = u .reads;
+        registers = u .registers;
+        memory = u .memory;
+      }
+  step-uniform (Jal rd imm) h e = put-uniform rd (constant next-pc) (λ c d m n. cc (u .pc c d m n))
+  step-uniform (Jalr rd rs1 imm) h e = put-uniform rd (constant next-pc) (λ c d m n. cc (h c d m n))
+  step-uniform Ecall h e =
+      let left : (c : Choice) → Inside c b → ltb (s c .reads) (length c) ≡ ltb (s (lows b) .reads) (length (lows b)) =
+      λ c m. cc (at-low (u .reads) c m, inside-length b c m, inside-length b (lows b) (lows-inside b proper)) in
+      by-test (ltb (s (lows b) .reads) (length (lows b)))
+      (λ z. rw z (uniform-cong {s = λ c. readInput c (s c)} (λ c m. rw (left c m ∙ z)) (record {
+        pc = next-pc;
+        reads = λ c d m n. cc (u .reads c d m n);
+        registers = written 10 {v = λ c. 8} (constant (λ c d m n. refl));
+        memory = stored {k = λ c. reg 11 (s c) / 8} (λ c d m n. cc (h c d m n))
+            (one-input-cong b (λ c m. cc (at-low (u .reads) c m)) (inl (λ c d m n l. l)));
+      })))
+      (λ z. rw z (uniform-cong {s = λ c. next (s c) (put 10 0 (s c)) (s c .memory)} (λ c m. rw (left c m ∙ z))
+      (put-uniform 10 {v = λ c. 0} (constant (λ c d m n. refl)) next-pc)))
+
+  -- the class of two operands, of which one is the same
+  sorted : (op : Operation) (rd r : ℕ) {g : Choice → ℕ} {j : ℕ} → OneInput b j g → ((c : Choice) → Inside c b → g c < size)
+      → (rd ≡ 0) ⊎ OneSame (EitherOpen op) b (λ c. reg r (s c)) g
+      → OneInput b (tagOf b (λ c. reg r (s c)) (getD (t .registers) r 0) j) (λ c. cond (eqb rd 0) 0 (sortOf op (reg r (s c)) (g c)))
+  sorted op rd r second words o =
+      by-test (eqb rd 0)
+      (λ z. rw z (one-input-constant b (λ c d m n. refl)))
+      (λ z. rw z (sort-one-input b proper (u .registers .one r) second (λ c h. (whole c h .registers .words r, words c h)) op
+      (⊎-elim (λ y. absurd (eqb-false rd 0 z y)) (λ x. x) o)))
+
+  pub class-uniform : (i : Instruction) → Settled b s i → OneInput b (classTag i (s (lows b)) (s (highs b)) t) (λ c. classOf i (s c))
+  unfolding classTag classOf
+  class-uniform (Lui rd imm) h = constant (λ c d m n. refl)
+  class-uniform (Addi rd rs1 imm) h =
+      rw (← cond-same (eqb (reg rs1 (s (lows b))) (reg rs1 (s (highs b)))) (getD (t .registers) rs1 0))
+      (sorted Add rd rs1 (one-input-constant b (λ c d m n. refl)) (λ c h. widen-word imm) (inr (inl (λ c d m n. refl))))
+  class-uniform (Register op rd rs1 rs2) h = sorted op rd rs1 (u .registers .one rs2) (λ c h. whole c h .registers .words rs2) h
+  class-uniform (Ld rd rs1 imm) h = constant (λ c d m n. refl)
+  class-uniform (Sd rs1 rs2 imm) h = constant (λ c d m n. refl)
+  class-uniform (Beq rs1 rs2 imm) h =
+      comparison-one-input b proper (u .registers .one rs1) (u .registers .one rs2)
+      (λ c m. (whole c m .registers .words rs1, whole c m .registers .words rs2)) h
+  class-uniform (Jal rd imm) h = constant (λ c d m n. refl)
+  class-uniform (Jalr rd rs1 imm) h = constant (λ c d m n. refl)
+  class-uniform Ecall h = constant (λ c d m n. refl)
+
+-- Runs.
+
+-- what an accepted call lends, and a box of it
+pub record Sound (j : Job) (b : Box) : Type 0 where
+  pub code : length (j .code) ≤ 1024
+  pub memory : Cells 512 (j .memory)
+  pub proper : Proper b
+  pub inputs : AllWords (highs b)
+
+unfoldable pub tagDecoded : Choice → Decoded → State → State → Tags → Tags
+tagDecoded c (Row i) l h t = tagStep c i l h t
+tagDecoded c NoRow l h t = t
+
+-- the tags after n steps, as a run of the two corners finds them
+unfoldable pub tagsAt : Job → Box → ℕ → Tags
+tagsAt j b zero = record { registers = replicate 32 0; memory = replicate 512 0 }
+tagsAt j b (suc n) =
+    let l = after j n (lows b) in
+    tagDecoded (lows b) (fetch (j .code) (l .pc)) l (after j n (highs b)) (tagsAt j b n)
+
+module _ (j : Job) (b : Box) (sound : Sound j b) where
+  pub whole-after : (n : ℕ) (c : Choice) → Inside c b → Whole (after j n c)
+  unfolding after
+  whole-after n c h =
+      run-whole (j .code) c (λ k. omega (arith, inside-at b c h k, sound .inputs k)) (start-whole (j .memory) (sound .memory)) n
+
+  after-suc : (n : ℕ) {i : Instruction} (c : Choice) → fetch (j .code) (after j n c .pc) ≡ Row i
+      → step c i (after j n c) ≡ after j (suc n) c
+  unfolding after run stepDecoded
+  after-suc n c e = rw e
+
+  pub uniform-start : Uniform b (after j 0) (tagsAt j b 0)
+  unfolding after run tagsAt
+  uniform-start =
+      record {
+        pc = λ c d m n. refl;
+        reads = λ c d m n. refl;
+        registers = record { count = refl; one = λ k. one-input-constant b (λ c d m n. refl) };
+        memory = record { count = length-replicate {A = ℕ} 512 0; one = λ k. one-input-constant b (λ c d m n. refl) };
+      }
+
+  pub uniform-next : (n : ℕ) → Smooth j b n → Uniform b (after j n) (tagsAt j b n) → Uniform b (after j (suc n)) (tagsAt j b (suc n))
+  unfolding tagsAt tagDecoded
+  uniform-next n s u =
+      let f = s .followed in
+      rw (f .fetched (lows b) (lows-inside b (sound .proper)))
+      (uniform-cong (λ c m. after-suc n c (f .fetched c m))
+      (step-uniform (sound .proper) (whole-after n) u (s .instruction) (f .settled) (s .class)))
+
+  -- after smooth steps
+  pub uniform-after : (n : ℕ) → ((m : ℕ) → m < n → Smooth j b m) → Uniform b (after j n) (tagsAt j b n)
+  uniform-after zero s = uniform-start
+  uniform-after (suc n) s = uniform-next n (s n (omega arith)) (uniform-after n (λ m h. s m (omega arith)))

@@ -1,0 +1,77 @@
+-- What an accepted call says of its job: the laws of the listing hold of it, and the paths fit their blocks.
+-- Assumes nothing.
+use mathlib.Core.Path.{_≡_, refl, sym, _∙_, subst}
+use mathlib.Core.Bool.{Bool, true, _&&_, and-eq-true-iff}
+use mathlib.Core.List.{List, [], _∷_}
+use mathlib.Core.Option.{none}
+use Prim.Native.Nat.{ℕ, zero, suc, _*_, _%_, _^_, _≤_, _<_}
+use native.Mathlib.Omega.{arith}
+use lib.Dec.{leb, eqb}
+use lib.ListN.{length}
+use borrow.Author.Tests.{leb-true, eqb-true}
+use Rattle.boxes.specs.Boxes.{Box, Proper, from, lows, highs}
+use Rattle.boxes.proofs.Lists.{_∈_}
+use Rattle.boxes.proofs.Choices.{inside-length}
+use Rattle.listing.specs.Group.{Job}
+use Rattle.listing.specs.Listing.{Path, pathOf, listing}
+use Rattle.corners.proofs.Uniform.{Sound}
+use Rattle.paths.proofs.Paths.{listing-ended}
+use Rattle.blocks.specs.Record.{room}
+use Rattle.calls.specs.Call.{Call, Below, boxOf, inOrder, asks, door, jobOf}
+use Rattle.calls.specs.declared.Refusal.{Refusal}
+use Rattle.calls.specs.declared.Refusal.the-variants.{Code, Inputs, Order, Memory}
+use Rattle.demands.proofs.Refuses.{Decides, decides}
+use Rattle.demands.proofs.Faithful.{listing-faithful}
+
+pub both : (t u : Bool) → t && u ≡ true → (t ≡ true) × (u ≡ true)
+both t u = and-eq-true-iff t u .0
+
+in-order-proper : (b : Box) → inOrder b ≡ true → Proper b
+unfolding inOrder
+in-order-proper [] e = tt
+in-order-proper (v ∷ b) e = let (h, r) = both (leb (v .low) (v .high)) (inOrder b) e in (leb-true (v .low) (v .high) h, in-order-proper b r)
+
+highs-below : (n : ℕ) (v : List ℕ) → 0 < n → Below n v → Below n (highs (boxOf v))
+unfolding boxOf
+highs-below n [] p h k = p
+highs-below n (l ∷ []) p h k = p
+highs-below n (l ∷ (x ∷ v)) p h zero = h 1
+highs-below n (l ∷ (x ∷ v)) p h (suc k) = highs-below n v p (λ i. h (suc (suc i))) k
+
+box-length : (v : List ℕ) → 2 * length (boxOf v) ≤ length v
+unfolding boxOf
+box-length [] = omega arith
+box-length (l ∷ []) = omega arith
+box-length (l ∷ (x ∷ v)) = omega (arith, box-length v)
+
+module _ (memory : List ℕ) (words : ℕ) (c : Call) (e : door memory words c ≡ none) where
+  pub accepted-yes : (q : Refusal) → asks memory words c q ≡ true
+  accepted-yes = subst (Decides (asks memory words c)) e (decides (asks memory words c))
+
+  pub job-inputs : length (jobOf memory words c .box) ≤ room
+  unfolding jobOf asks
+  job-inputs =
+      let l = leb-true (length (c .intervals)) (2 * room) (both (eqb (length (c .intervals) % 2) 0) _ (accepted-yes Inputs) .1) in
+      omega (arith, box-length (c .intervals))
+
+  pub accepted-sound : Below (2 ^ 64) memory → Below (2 ^ 64) (c .intervals) → Sound (jobOf memory words c) (jobOf memory words c .box)
+  unfolding jobOf asks
+  accepted-sound m t =
+      record {
+        code = leb-true (length (c .code)) 1024 (both (leb 1 (length (c .code))) _ (accepted-yes Code) .1);
+        memory = record { count = eqb-true (length memory) 512 (accepted-yes Memory); words = m };
+        proper = in-order-proper (boxOf (c .intervals)) (accepted-yes Order);
+        inputs = highs-below (2 ^ 64) (c .intervals) (omega arith) t;
+      }
+
+-- a path of the listing has the job's inputs and 32 registers
+module _ (j : Job) (sound : Sound j (j .box)) (p : Path) (m : p ∈ listing j) where
+  pub path-inputs : length (p .box) ≡ length (j .box)
+  path-inputs =
+      let f = listing-faithful j sound p m in
+      sym (inside-length (p .box) (lows (p .box)) (f .lowest))
+      ∙ inside-length (j .box) (lows (p .box)) (f .inputs (lows (p .box)) (f .lowest))
+
+  pub path-registers : length (p .registers) ≡ 32
+  unfolding pathOf from
+  path-registers = subst (λ (q : Path). length (q .registers) ≡ 32) (listing-ended j sound p m .path) refl

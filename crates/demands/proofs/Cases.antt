@@ -1,0 +1,116 @@
+-- Document 01's cases under P as calls, with the program's table and report; and Job A in pages of one path.
+-- Assumes nothing.
+use mathlib.Core.Path.{_≡_, refl, sym, ap, _∙_}
+use mathlib.Core.Bool.{Bool, true, false}
+use mathlib.Core.List.{List, [], _∷_, map, flatMap, List·Memᴰ·head as here}
+use mathlib.Core.Option.{Option, none}
+use Prim.Native.Nat.{ℕ, _+_, _-_, _*_, _/_, min}
+use native.Mathlib.Omega.{arith}
+use lib.Dec.{leb, ltb}
+use lib.ListN.{length, take, drop, replicate, length-replicate, length-map, length-take, length-drop}
+use lib.Seq.{take-all}
+use borrow.Author.Tests.{leb-true, le-ltb}
+use Rattle.boxes.specs.Boxes.{Box, Interval}
+use Rattle.boxes.proofs.Lists.{_∈_, map-eq}
+use Rattle.listing.specs.Listing.{Path, listing}
+use Rattle.corners.proofs.Cases.{line, Case, jobOf as caseJob, jobA, table, cases-right}
+use Rattle.blocks.specs.Record.{pathBytes}
+use Rattle.calls.specs.Call.{Call, callOf, boxOf, inOrder, asks, firstNo, door, jobOf, page, replyBy, replyTo}
+use Rattle.calls.specs.declared.Refusal.{Refusal}
+use Rattle.calls.specs.declared.Answer.{Answer}
+use Rattle.calls.specs.declared.Answer.the-variants.{Page}
+
+-- low, high, low, high, ..
+abbrev ends : Box → List ℕ
+ends b = flatMap (λ (v : Interval). v .low ∷ v .high ∷ []) b
+
+box-of-ends : (b : Box) → boxOf (ends b) ≡ b
+unfolding boxOf flatMap
+box-of-ends [] = refl
+box-of-ends (v ∷ b) = ap (λ (r : Box). v ∷ r) (box-of-ends b)
+
+-- the case as a call for path f, with a report of n paths
+abbrev call : Case → ℕ → ℕ → Call
+call c n f = callOf (c .code) (ends (c .box)) (c .limit) (replicate (pathBytes * n) 0) f
+
+abbrev memory : List ℕ
+memory = replicate 512 0
+
+abbrev words : ℕ
+words = 8192
+
+same-job : (c : Case) (n f : ℕ) → jobOf memory words (call c n f) ≡ caseJob c
+unfolding jobOf
+same-job c n f = rw (box-of-ends (c .box))
+
+-- a report of n paths holds n paths
+report-room : (n : ℕ) → length (replicate {A = ℕ} (pathBytes * n) 0) / pathBytes ≡ n
+report-room n = rw length-replicate (omega arith)
+
+-- what an open door says of a case whose lines are right
+module _ (c : Case) (n f : ℕ) (open-door : door memory words (call c n f) ≡ none) (right : map line (listing (caseJob c)) ≡ c .lines) where
+  page-is : page (jobOf memory words (call c n f)) (call c n f) ≡ take n (drop f (listing (caseJob c)))
+  unfolding page
+  page-is = rw (same-job c n f, report-room n)
+
+  as-many : length (listing (caseJob c)) ≡ length (c .lines)
+  as-many = sym (length-map (listing (caseJob c)) line) ∙ ap length right
+
+  answer-is : replyTo memory words (call c n f) .answer
+      ≡ Page (min n (length (c .lines) - f)) (ltb (f + min n (length (c .lines) - f)) (length (c .lines)))
+  unfolding replyTo replyBy
+  answer-is = rw (open-door, page-is, same-job c n f, length-take, length-drop, as-many)
+
+-- The whole table, each case on one page: its lines, and no further path.
+
+pub record Answered (c : Case) : Type 0 where
+  pub answer : replyTo memory words (call c 64 0) .answer ≡ Page (length (c .lines)) false
+  pub lines : map line (page (jobOf memory words (call c 64 0)) (call c 64 0)) ≡ c .lines
+
+-- the door is open, and the lines fit
+record Ready : Type 0 where
+  door : Option Refusal
+  fits : Bool
+
+abbrev ready : (ℕ × Case) → Ready
+ready x = record { door = door memory words (call (x .1) 64 0); fits = leb (length (x .1 .lines)) 64 }
+
+abbrev wanted : (ℕ × Case) → Ready
+wanted x = record { door = none; fits = true }
+
+all-ready : map ready table ≡ map wanted table
+unfolding firstNo asks inOrder boxOf flatMap
+all-ready = refl
+
+pub cases-answered : (x : ℕ × Case) → x ∈ table → Answered (x .1)
+cases-answered x m =
+    let c = x .1 in
+    let e = map-eq ready wanted table all-ready x m in
+    let o = ap (λ (r : Ready). r .door) e in
+    let l = leb-true (length (c .lines)) 64 (ap (λ (r : Ready). r .fits) e) in
+    let right = cases-right x m in
+    let all : take 64 (listing (caseJob c)) ≡ listing (caseJob c) =
+    take-all 64 (listing (caseJob c)) (omega (arith, as-many c 64 0 o right)) in
+    let k : min 64 (length (c .lines) - 0) ≡ length (c .lines) = omega arith in
+    record {
+      answer = answer-is c 64 0 o right ∙ rw (k, le-ltb (0 + length (c .lines)) (length (c .lines)) (omega arith));
+      lines = ap (λ (ps : List Path). map line ps) (page-is c 64 0 o right ∙ all) ∙ right;
+    }
+
+-- Job A: "paths 2 more 0", with its two lines
+pub job-a : Answered jobA
+job-a = cases-answered (10, jobA) (here refl)
+
+-- Job A in pages of one path; a first path past the last gives 0 and no
+abbrev answerA : ℕ → Answer
+answerA f = replyTo memory words (call jobA 1 f) .answer
+
+open-doors : (door memory words (call jobA 1 0) ≡ none) × (door memory words (call jobA 1 1) ≡ none)
+    × (door memory words (call jobA 1 2) ≡ none)
+unfolding firstNo asks inOrder boxOf flatMap
+open-doors = (refl, refl, refl)
+
+pub job-a-pages : (answerA 0 ≡ Page 1 true) × (answerA 1 ≡ Page 1 false) × (answerA 2 ≡ Page 0 false)
+job-a-pages =
+    let right = cases-right (10, jobA) (here refl) in
+    (answer-is jobA 1 0 (open-doors .0) right, answer-is jobA 1 1 (open-doors .1) right, answer-is jobA 1 2 (open-doors .2) right)

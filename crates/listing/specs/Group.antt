@@ -1,0 +1,77 @@
+-- A job and its groups: what the plain machine has, for each choice in a group's box, after the group's steps.
+use Prim.Native.Nat.{ℕ, _+_, _*_, _/_}
+use mathlib.Core.Bool.{Bool, cond, not}
+use mathlib.Core.List.{List}
+use lib.Dec.{ltb, eqb}
+use Rattle.boxes.specs.Boxes.{Box, Choice, low, high, fixed, pieces, lows}
+use Rattle.riscu.specs.Word.{size, widen}
+use Rattle.riscu.specs.Machine.{State, start, reg, run}
+use Rattle.riscu.specs.declared.Operation.{Operation}
+use Rattle.riscu.specs.declared.Operation.the-variants.{Add, Sub, Mul, Divu, Remu, Sltu}
+use Rattle.riscu.specs.declared.Instruction.{Instruction}
+use Rattle.riscu.specs.declared.Instruction.the-variants.{Lui, Addi, Register, Ld, Sd, Beq, Jal, Jalr, Ecall}
+
+-- what an accepted call lends the listing; `entries` is the number of table entries
+pub record Job : Type 0 where
+  pub code : List ℕ
+  pub memory : List ℕ
+  pub limit : ℕ
+  pub box : Box
+  pub entries : ℕ
+
+pub record Group : Type 0 where
+  pub box : Box
+  pub steps : ℕ
+  pub used : ℕ
+
+-- the plain machine after n steps, for one choice
+unfoldable pub after : Job → ℕ → Choice → State
+after j n c = run (j .code) c n (start (j .memory))
+
+-- What a fork rule sorts by: the wrap of a sum or a difference, the quotient of MUL and REMU, the outcome of a comparison.
+unfoldable pub sortOf : Operation → ℕ → ℕ → ℕ
+sortOf Add a b = (a + b) / size
+sortOf Sub a b = cond (ltb a b) 1 0
+sortOf Mul a b = a * b / size
+sortOf Divu a b = 0
+sortOf Remu a b = a / b
+sortOf Sltu a b = cond (ltb a b) 1 0
+
+-- less, equal, greater
+unfoldable pub comparison : ℕ → ℕ → ℕ
+comparison a b = cond (ltb a b) 0 (cond (eqb a b) 1 2)
+
+-- the class of a machine at an instruction; into register 0 nothing is computed
+unfoldable pub classOf : Instruction → State → ℕ
+classOf (Lui rd imm) s = 0
+classOf (Addi rd rs1 imm) s = cond (eqb rd 0) 0 (sortOf Add (reg rs1 s) (widen imm))
+classOf (Register op rd rs1 rs2) s = cond (eqb rd 0) 0 (sortOf op (reg rs1 s) (reg rs2 s))
+classOf (Ld rd rs1 imm) s = 0
+classOf (Sd rs1 rs2 imm) s = 0
+classOf (Beq rs1 rs2 imm) s = comparison (reg rs1 s) (reg rs2 s)
+classOf (Jal rd imm) s = 0
+classOf (Jalr rd rs1 imm) s = 0
+classOf Ecall s = 0
+
+-- What a move asks of a group: of a value of the machine whether it is open (not fixed), its least and its greatest; pc and inputs
+-- read; the pieces into which an instruction sorts the choices.
+pub record View : Type 0 where
+  pub isOpen : (State → ℕ) → Bool
+  pub lowest : (State → ℕ) → ℕ
+  pub highest : (State → ℕ) → ℕ
+  pub pc : ℕ
+  pub reads : ℕ
+  pub piecesOf : Instruction → List Box
+
+-- the view over all the choices in the group's box; they share pc and inputs read
+abbrev pub viewOf : Job → Group → View
+viewOf j g =
+    let at : Choice → State = after j (g .steps) in
+    record {
+      isOpen = λ f. not (fixed (λ c. f (at c)) (g .box));
+      lowest = λ f. low (λ c. f (at c)) (g .box);
+      highest = λ f. high (λ c. f (at c)) (g .box);
+      pc = at (lows (g .box)) .pc;
+      reads = at (lows (g .box)) .reads;
+      piecesOf = λ i. pieces (λ c. classOf i (at c)) (g .box);
+    }

@@ -1,0 +1,39 @@
+-- Document 01's numbers for how a path ends.
+use Prim.Native.Nat.{ℕ}
+use Rattle.listing.specs.declared.Reason.{Reason}
+use Rattle.listing.specs.declared.Reason.the-variants.{BothOpen, Multiplier, Divisor, DivisorOpen, Quotients, BaseOpen, CallOpen}
+use Rattle.listing.specs.declared.End.{End}
+use Rattle.listing.specs.declared.End.the-variants.{Exit, DivisionByZero, BadPc, BadWord, BadAddress, BadCall, StepLimit, NotFollowed}
+use Rattle.listing.specs.declared.End.the-variants.{TraceFull}
+
+abbrev pub reasonNumber : Reason → ℕ
+reasonNumber BothOpen = 1
+reasonNumber Multiplier = 2
+reasonNumber Divisor = 3
+reasonNumber DivisorOpen = 4
+reasonNumber Quotients = 5
+reasonNumber BaseOpen = 6
+reasonNumber CallOpen = 7
+
+abbrev pub kindNumber : End → ℕ
+kindNumber Exit = 1
+kindNumber DivisionByZero = 2
+kindNumber BadPc = 3
+kindNumber BadWord = 4
+kindNumber BadAddress = 5
+kindNumber BadCall = 6
+kindNumber StepLimit = 7
+kindNumber (NotFollowed r) = 8
+kindNumber TraceFull = 9
+
+-- the reason's word: 0 unless kind 8
+abbrev pub reasonWord : End → ℕ
+reasonWord (NotFollowed r) = reasonNumber r
+reasonWord Exit = 0
+reasonWord DivisionByZero = 0
+reasonWord BadPc = 0
+reasonWord BadWord = 0
+reasonWord BadAddress = 0
+reasonWord BadCall = 0
+reasonWord StepLimit = 0
+reasonWord TraceFull = 0

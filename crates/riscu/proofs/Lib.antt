@@ -1,0 +1,19 @@
+-- The laws of the plain machine, and those that its code is proved by.
+--     Whole       what every state keeps: 32 registers, 512 memory words, all words, register 0
+--     Counters    pc stays a word, and the inputs read are at most the steps
+--     Columns     a product in columns, in any base
+--     Signs       signed numbers of any width, and as 64 bits
+--     Rows        the search of the code's table
+--     Joins       states by their parts, instructions by their cases
+--     Runs        a run, one instruction at a time
+--     Powers      the powers of two, and the search that finds one
+--     Widths      sign extension, once over the width
+pub mod Whole
+pub mod Counters
+pub mod Columns
+pub mod Signs
+pub mod Rows
+pub mod Joins
+pub mod Runs
+pub mod Powers
+pub mod Widths

@@ -1,0 +1,79 @@
+use borrow.Author.Needs.{needs}
+use native.Mathlib.Omega.{arith}
+use mathlib.Core.Path.{_≡_, refl, sym, _∙_}
+use Prim.Native.Nat.{_-_, _<_}
+use denote.Ref.{now}
+use lib.ListN.{length, drop}
+use Rattle.vectors.specs.Text.{numberFrom}
+use Rattle.vectors.proofs.Steps.{number-ends, number-goes, number-stops}
+use Rattle.vectors.proofs.number_at.Statement.{statement}
+use Rattle.vectors.proofs.number_at.Tie as tie
+
+abbrev Inv-loop : tie.InvT-loop
+Inv-loop text from value₀ i₀ value i = numberFrom (drop from text) 0 from ≡ numberFrom (drop i text) value i
+
+abbrev μ-loop : tie.MeasureT-loop
+μ-loop text from value₀ i₀ value i = length text - i
+
+loop-holds : tie.Need-loop-holds Inv-loop μ-loop
+loop-holds c = refl
+
+shared-slice-read-digit : tie.Need-shared-slice-read-digit Inv-loop μ-loop
+shared-slice-read-digit c = omega arith
+
+digit-requires : tie.Need-digit-requires Inv-loop μ-loop
+digit-requires c κs = search needs
+
+add-t10 : tie.Need-add-t10 Inv-loop μ-loop
+add-t10 c = omega arith
+
+returns : tie.Need-returns Inv-loop μ-loop
+returns c =
+    let t = now (c .before .before .before .before .before .before .args .text) in
+    let l = c .before .before .before .before .loop in
+    let h : l .i < length t = omega arith in
+    let d = c .before .digit in
+    sym (l .inv ∙ number-ends t (l .i) (l .value) h (omega (arith, d .ensures)))
+
+mul-value : tie.Need-mul-value Inv-loop μ-loop
+mul-value c = omega arith
+
+add-value : tie.Need-add-value Inv-loop μ-loop
+add-value c = omega arith
+
+add-i : tie.Need-add-i Inv-loop μ-loop
+add-i c = omega arith
+
+loop-less : tie.Need-loop-less Inv-loop μ-loop
+loop-less c = omega arith
+
+loop-again : tie.Need-loop-again Inv-loop μ-loop
+loop-again c =
+    let t = now (c .before .before .before .before .before .before .args .text) in
+    let l = c .before .before .before .before .loop in
+    let h : l .i < length t = omega arith in
+    let d = c .before .digit in
+    l .inv ∙ number-goes t (l .i) (l .value) h (omega (arith, d .ensures)) ∙ rw (d .ensures)
+
+returns-2 : tie.Need-returns-2 Inv-loop μ-loop
+returns-2 c =
+    let l = c .before .loop in
+    sym (l .inv ∙ number-stops (now (c .before .before .before .args .text)) (l .i) (l .value) (omega arith))
+
+pub number-at-spec : {M : Type 1} → statement M
+number-at-spec =
+    tie.close
+    (tie.spec
+    Inv-loop
+    μ-loop
+    loop-holds
+    shared-slice-read-digit
+    digit-requires
+    add-t10
+    returns
+    mul-value
+    add-value
+    add-i
+    loop-less
+    loop-again
+    returns-2)

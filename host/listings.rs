@@ -1,0 +1,552 @@
+//! Small jobs with their whole listings by the oracle, written as crates/listing/proofs/Examples.antt.
+//!
+//! `listings` prints that file; `listings --check FILE` compares FILE with it.
+
+mod assembler;
+mod oracle;
+
+use assembler::*;
+use oracle::{Interval, Job, Path};
+use std::fmt::Write;
+
+const MAX: u64 = u64::MAX;
+const HALF: u64 = 1 << 63;
+
+// ---------------------------------------------------------------------------------------------
+// Examples: a job and its name.
+
+struct Example {
+    name: &'static str,
+    job: Job,
+}
+
+/// A job with no inputs, no memory words, and room for what small programs do.
+fn example(name: &'static str, code: &[u32]) -> Example {
+    let (memory, intervals) = (Vec::new(), Vec::new());
+    Example { name, job: Job { code: code.to_vec(), memory, limit: 20, intervals, entries: 40 } }
+}
+
+impl Example {
+    /// With one more input.
+    fn over(mut self, low: u64, high: u64) -> Example {
+        self.job.intervals.push((low, high));
+        self
+    }
+
+    fn memory(mut self, words: &[u64]) -> Example {
+        self.job.memory = words.to_vec();
+        self
+    }
+
+    fn limit(mut self, limit: u64) -> Example {
+        self.job.limit = limit;
+        self
+    }
+
+    fn entries(mut self, entries: u64) -> Example {
+        self.job.entries = entries;
+        self
+    }
+}
+
+fn reading(name: &'static str, low: u64, high: u64, work: &[u32]) -> Example {
+    example(name, &reads(work)).over(low, high)
+}
+
+/// Reads the next input to address 8 and loads it into register 7.
+fn second_read() -> [u32; 4] {
+    [addi(10, 0, 0), addi(11, 0, 8), ecall(), ld(7, 8, 0)]
+}
+
+/// A program with two inputs, in registers 5 and 7.
+fn reading_two(name: &'static str, first: Interval, second: Interval, work: &[u32]) -> Example {
+    let code = reads(&[&second_read(), work].concat());
+    example(name, &code).over(first.0, first.1).over(second.0, second.1)
+}
+
+/// v < 10: document 01's Job A.
+fn less_than_ten() -> [u32; 2] {
+    [addi(6, 0, 10), sltu(10, 5, 6)]
+}
+
+fn job_a(name: &'static str) -> Example {
+    reading(name, 5, 14, &less_than_ten())
+}
+
+// ---------------------------------------------------------------------------------------------
+// The examples, by what they show.
+
+fn plain_ends() -> Vec<Example> {
+    let last_word = [&[sd(2, -8, 2), ld(10, -8, 2)][..], &closing()].concat();
+    let bad_address = [&[addi(11, 0, 4)][..], &opening()].concat();
+    let bad_file = [&[addi(10, 0, 1)][..], &bad_address].concat();
+    vec![
+        reading("exit with an open value", 3, 6, &[addi(10, 5, 0)]),
+        example("exit with no inputs", &closing()),
+        reading("DIVU by 0", 3, 6, &[divu(10, 5, 0)]),
+        reading("REMU by 0", 3, 6, &[remu(10, 5, 0)]),
+        example("pc runs beyond the code", &[addi(5, 0, 1)]),
+        example("JAL to half a word", &[jal(1, 6)]),
+        example("JAL below address 0", &[jal(0, -4)]),
+        example("JALR clears bit 0 of its target alone", &[jalr(5, 7, 0), ecall()]),
+        example("a word of no row", &[addi(5, 0, 1), 0]),
+        example("EBREAK matches no row", &[0x00100073]),
+        example("LD from an address that is no multiple of 8", &[ld(5, 12, 0)]),
+        example("SD above the last word", &[sd(5, 0, 2)]),
+        example("SD and LD at the last word", &last_word),
+        example("read to a bad address", &bad_address).over(3, 6),
+        example("read to a bad address with no input left", &bad_address),
+        example("a call of another number", &[addi(17, 0, 64), ecall()]),
+        example("read of 4 bytes", &[addi(17, 0, 63), addi(12, 0, 4), ecall()]).over(3, 6),
+        example("read from file 1 to a bad address", &bad_file),
+        job_a("the limit before the fork").limit(5),
+        job_a("the limit after the fork").limit(7),
+        example("the limit comes before a bad pc", &[addi(5, 0, 1)]).limit(1),
+        example("a loop that writes nothing", &[jal(0, 0)]).limit(12).entries(1),
+    ]
+}
+
+fn operand_reasons() -> Vec<Example> {
+    let times_half = [ld(6, 16, 0), mul(10, 5, 6)];
+    vec![
+        reading("ADD of one open register twice", 3, 6, &[add(10, 5, 5)]),
+        reading("SUB of one open register twice", 3, 6, &[sub(10, 5, 5)]),
+        reading("MUL of one open register twice", 3, 6, &[mul(10, 5, 5)]),
+        reading("BEQ of one open register twice", 3, 6, &[beq(5, 5, 8)]),
+        reading_two("SLTU of two inputs", (3, 4), (4, 5), &[sltu(10, 5, 7)]),
+        reading("MUL by 3", 3, 6, &[addi(6, 0, 3), mul(10, 6, 5)]),
+        reading("DIVU by 3", 3, 6, &[addi(6, 0, 3), divu(10, 5, 6)]),
+        reading("DIVU by an open divisor", 3, 6, &[divu(10, 5, 5)]),
+        reading("REMU by an open divisor", 0, 3, &[remu(10, 0, 5)]),
+        reading("0..10 mod 5", 0, 10, &[addi(6, 0, 5), remu(10, 5, 6)]),
+        reading("MUL by 2^63 with three quotients", 0, 4, &times_half).memory(&[0, 0, HALF]),
+        reading("MUL of fixed values by 3", 5, 5, &[addi(6, 0, 3), mul(10, 5, 6)]),
+        reading("DIVU of fixed values by 3", 5, 5, &[addi(6, 0, 3), divu(10, 5, 6)]),
+        reading("LD with an open base", 0, 3, &[ld(10, 4, 5)]),
+        reading("SD with an open base", 0, 3, &[sd(5, 0, 5)]),
+        reading("JALR with an open base", 0, 3, &[jalr(0, 0, 5)]),
+    ]
+}
+
+fn call_reasons() -> Vec<Example> {
+    vec![
+        reading("an open call number", 62, 64, &[addi(17, 5, 0), ecall()]),
+        reading("read from an open file", 0, 2, &[addi(10, 5, 0), ecall()]),
+        reading("read to an open address", 0, 2, &[addi(10, 0, 0), addi(11, 5, 0), ecall()]),
+        reading("read of an open count from file 8", 7, 9, &[addi(12, 5, 0), ecall()]),
+        reading("exit with open registers 11 and 12", 7, 9, &[addi(11, 5, 0), addi(12, 5, 0)]),
+    ]
+}
+
+fn sum_forks() -> Vec<Example> {
+    vec![
+        reading("ADDI wraps: v + 5", MAX - 7, MAX, &[addi(10, 5, 5)]),
+        reading("ADDI wraps for every value: v + 5", MAX - 3, MAX, &[addi(10, 5, 5)]),
+        reading("ADDI of a negative number: v - 3", 0, 5, &[addi(10, 5, -3)]),
+        reading("ADD with the open operand first", 0, 5, &[addi(6, 0, -3), add(10, 5, 6)]),
+        reading("ADD with the open operand second", 0, 5, &[addi(6, 0, -3), add(10, 6, 5)]),
+        reading("SUB with the open operand first", 0, 5, &[addi(6, 0, 3), sub(10, 5, 6)]),
+        reading("SUB with the open operand second", 0, 5, &[addi(6, 0, 3), sub(10, 6, 5)]),
+        reading("fixed sums wrap with no fork", 5, 5, &[addi(6, 0, -3), add(10, 5, 6)]),
+        reading("a fixed input added to itself", 5, 5, &[add(10, 5, 5)]),
+    ]
+}
+
+fn product_forks() -> Vec<Example> {
+    let halves = [0, 0, HALF];
+    let half_first = [ld(6, 16, 0), mul(10, 6, 5)];
+    let zero_base = [mul(6, 5, 0), ld(10, 16, 6)];
+    let fixed_quotient = [addi(6, 0, 4), divu(7, 5, 6), add(10, 7, 5)];
+    vec![
+        reading("MUL by 2^63", 0, 3, &[ld(6, 16, 0), mul(10, 5, 6)]).memory(&halves),
+        reading("MUL by 2, the wrap alone", HALF - 2, HALF, &[addi(6, 0, 2), mul(10, 5, 6)]),
+        reading("MUL with the power of two first", 1, 2, &half_first).memory(&halves),
+        reading("MUL by 1", 3, 6, &[addi(6, 0, 1), mul(10, 6, 5)]),
+        reading("MUL by 0 is fixed, and a base", 3, 6, &zero_base).memory(&halves),
+        reading("3..6 mod 5", 3, 6, &[addi(6, 0, 5), remu(10, 5, 6)]),
+        reading("3..7 mod 5", 3, 7, &[addi(6, 0, 5), remu(10, 5, 6)]),
+        reading("5..9 mod 5 has one piece", 5, 9, &[addi(6, 0, 5), remu(10, 5, 6)]),
+        reading("DIVU by 4 does not fork", 3, 12, &[addi(6, 0, 4), divu(10, 5, 6)]),
+        reading("DIVU whose result is fixed", 4, 7, &fixed_quotient),
+    ]
+}
+
+fn comparison_forks() -> Vec<Example> {
+    let equal = |constant: i32| [addi(6, 0, constant), beq(5, 6, 8), addi(10, 0, 1)];
+    let equal_second = [addi(6, 0, 5), beq(6, 5, 8), addi(10, 0, 1)];
+    let falling = [addi(6, 0, 10), sub(7, 6, 5), addi(28, 0, 1), sltu(10, 7, 28)];
+    vec![
+        job_a("SLTU with the open operand first"),
+        reading("SLTU with the open operand second", 3, 8, &[addi(6, 0, 5), sltu(10, 6, 5)]),
+        reading("v < 0 has one piece", 0, 5, &[sltu(10, 5, 0)]),
+        reading("BEQ with three pieces", 3, 7, &equal(5)),
+        reading("BEQ with the open operand second", 3, 7, &equal_second),
+        reading("BEQ with equal and greater", 3, 7, &equal(3)),
+        reading("BEQ with less and equal", 3, 7, &equal(7)),
+        reading("BEQ with one piece", 3, 7, &equal(9)),
+        reading("BEQ of fixed values", 5, 5, &equal(5)),
+        reading("10 - v < 1: pieces in order of the input", 7, 13, &falling),
+    ]
+}
+
+fn register_zero() -> Vec<Example> {
+    let upper = [&[lui(0, 5), lui(10, 0x80001)][..], &closing()].concat();
+    let links = [&[jal(1, 8), ecall(), jalr(1, 8, 1)][..], &closing()].concat();
+    vec![
+        reading("ADDI into register 0 does not fork", MAX - 2, MAX, &[addi(0, 5, 5)]),
+        reading("ADD into register 0 of open values", 3, 6, &[add(0, 5, 5)]),
+        reading("MUL into register 0 by 3", 3, 6, &[addi(6, 0, 3), mul(0, 5, 6)]),
+        reading("DIVU into register 0 by an open divisor", 0, 3, &[divu(0, 5, 5)]),
+        reading("REMU into register 0 by 0", 3, 6, &[remu(0, 5, 0)]),
+        reading("SLTU into register 0 does not fork", 3, 6, &[addi(6, 0, 5), sltu(0, 5, 6)]),
+        example("LUI into register 0, and below 0", &upper),
+        example("LD into register 0 from a bad address", &[ld(0, 4, 0)]),
+        example("JAL and JALR link", &links),
+    ]
+}
+
+fn inputs() -> Vec<Example> {
+    let both_less = [addi(6, 0, 5), sltu(28, 5, 6), sltu(10, 7, 6)];
+    let second_first = [addi(6, 0, 5), sltu(28, 7, 6), sltu(10, 5, 6)];
+    vec![
+        reading_two("two inputs, the first cut first", (4, 5), (3, 6), &both_less),
+        reading_two("two inputs, the second cut first", (4, 5), (3, 6), &second_first),
+        reading_two("a fixed input beside an open one", (4, 4), (3, 6), &[add(10, 5, 7)]),
+        job_a("the second input is not read").over(2, 4),
+        example("three inputs, none read", &closing()).over(1, 2).over(3, 3).over(4, 5),
+        reading_two("three inputs, two read", (4, 5), (3, 4), &[addi(10, 7, 2)]).over(8, 9),
+        reading("read with no input left", 3, 6, &[addi(10, 0, 0), ecall(), ld(7, 0, 0)]),
+        example("read with no inputs", &reads(&[])).memory(&[7]),
+    ]
+}
+
+fn memory() -> Vec<Example> {
+    let narrowed = [sd(5, 24, 0), addi(6, 0, 5), sltu(7, 5, 6), ld(10, 24, 0)];
+    vec![
+        reading("SD and LD of an open value", 3, 6, &[sd(5, 24, 0), ld(10, 24, 0)]),
+        reading("memory words as lent", 3, 6, &[ld(6, 8, 0), add(10, 5, 6)]).memory(&[1, 40]),
+        reading("a value in memory narrows with its input", 3, 6, &narrowed),
+    ]
+}
+
+/// Ten tests of v < 5 in a loop.
+fn ten_tests() -> Example {
+    let start = [addi(6, 0, 5), addi(7, 0, 10)];
+    let turn = [sltu(10, 5, 6), addi(7, 7, -1), beq(7, 0, 8), jal(0, -12)];
+    reading("v < 5 tested ten times", 3, 6, &[&start[..], &turn].concat()).limit(50)
+}
+
+/// Where v < 5, and there alone, does the work.
+fn where_less(work: &[u32]) -> Vec<u32> {
+    let over = 4 * (work.len() as i32 + 1);
+    [&[addi(6, 0, 5), sltu(28, 5, 6), beq(28, 0, over)], work].concat()
+}
+
+fn slips() -> Vec<Example> {
+    let narrowed = [addi(7, 5, 2), addi(6, 0, 5), sltu(28, 5, 6), addi(10, 7, 0)];
+    let longer = where_less(&[addi(10, 0, 1), addi(10, 0, 2), addi(10, 0, 3)]);
+    let stores = [&where_less(&[addi(7, 0, 99), sd(7, 16, 0)])[..], &[ld(10, 16, 0)]].concat();
+    let ask = [addi(10, 0, 0), addi(11, 0, 8), ecall()];
+    let asks = [&where_less(&ask)[..], &ask, &[ld(7, 8, 0)]].concat();
+    vec![
+        ten_tests(),
+        reading("a sum narrows with its input", 3, 6, &narrowed),
+        reading("steps are the path's own", 3, 6, &longer).limit(9),
+        reading("memory is as lent for the next piece", 3, 6, &stores).memory(&[0, 0, 7]),
+        reading("registers are restored for the next piece", 3, 6, &where_less(&[addi(29, 0, 1)])),
+        reading("inputs read are the path's own", 3, 6, &asks).over(8, 9),
+    ]
+}
+
+fn few_entries() -> Vec<Example> {
+    let zeros = [add(0, 5, 5), ld(0, 8, 0), jal(0, 4)];
+    let ask = [addi(10, 0, 0), ecall()];
+    let twice = where_less(&[addi(10, 0, 1), addi(10, 0, 2)]);
+    vec![
+        job_a("one entry: a register write").entries(1),
+        job_a("read needs two entries and has one").entries(3),
+        job_a("an entry too few for the fork").entries(7),
+        job_a("an entry too few after the fork").entries(8),
+        job_a("just enough entries").entries(9),
+        reading("LD with no entry left", 3, 6, &[]).entries(4),
+        reading("SD with no entry left", 3, 6, &[sd(5, 24, 0)]).entries(5),
+        reading("BEQ forks with no entry left", 3, 6, &[addi(6, 0, 5), beq(5, 6, 8)]).entries(6),
+        reading("BEQ with one piece needs no entry", 3, 6, &[beq(5, 0, 8)]).entries(6),
+        reading("into register 0 no entry is needed", 3, 6, &zeros).entries(6),
+        reading("no input left and no entry left", 3, 6, &ask).entries(6),
+        reading("no input left and one entry left", 3, 6, &ask).entries(7),
+        reading("a reason comes before the entries", 3, 6, &[add(10, 5, 5)]).entries(5),
+        reading("the next piece gets the entries back", 3, 6, &twice).entries(10),
+    ]
+}
+
+/// A table of the file: its name, what it shows, and its examples.
+struct Table {
+    name: &'static str,
+    shows: &'static str,
+    examples: Vec<Example>,
+}
+
+fn tables() -> Vec<Table> {
+    let table = |name, shows, examples| Table { name, shows, examples };
+    vec![
+        table("endings", "kinds 1 to 7", plain_ends()),
+        table("operands", "reasons 1 to 6", operand_reasons()),
+        table("calls", "reason 7", call_reasons()),
+        table("sums", "forks where the wrap of a sum or a difference changes", sum_forks()),
+        table("products", "forks where a quotient changes", product_forks()),
+        table("comparisons", "forks where a comparison changes", comparison_forks()),
+        table("zeros", "register 0, and the results of LUI, JAL and JALR", register_zero()),
+        table("inputs", "none to three inputs, read or not", inputs()),
+        table("stored", "memory", memory()),
+        table("slips", "what each path has of its own", slips()),
+        table("few-entries", "kind 9", few_entries()),
+    ]
+}
+
+// ---------------------------------------------------------------------------------------------
+// The antt file.
+
+const END_NAMES: [&str; 9] = [
+    "Exit",
+    "DivisionByZero",
+    "BadPc",
+    "BadWord",
+    "BadAddress",
+    "BadCall",
+    "StepLimit",
+    "NotFollowed",
+    "TraceFull",
+];
+
+const REASON_NAMES: [&str; 7] =
+    ["BothOpen", "Multiplier", "Divisor", "DivisorOpen", "Quotients", "BaseOpen", "CallOpen"];
+
+fn end_text(kind: u64, reason: u64) -> String {
+    let name = END_NAMES[kind as usize - 1];
+    if kind == oracle::NOT_FOLLOWED {
+        format!("({name} {})", REASON_NAMES[reason as usize - 1])
+    } else {
+        name.to_string()
+    }
+}
+
+/// Numbers near 2^63 and 2^64 are written by their distance, which shows what they are.
+fn number(value: u64) -> String {
+    match value {
+        MAX => "top".to_string(),
+        _ if value > MAX - 4096 => format!("(top - {})", MAX - value),
+        HALF => "half".to_string(),
+        _ if (HALF - 4096..HALF).contains(&value) => format!("(half - {})", HALF - value),
+        _ if value >= 1 << 32 => format!("0x{value:X}"),
+        _ => value.to_string(),
+    }
+}
+
+fn interval((low, high): Interval) -> String {
+    format!("{} ⋯ {}", number(low), number(high))
+}
+
+/// A list in brackets, on one line.
+fn list(items: impl Iterator<Item = String>) -> String {
+    let items: String = items.map(|item| item + " ∷ ").collect();
+    if items.is_empty() {
+        "[]".to_string()
+    } else {
+        format!("({items}[])")
+    }
+}
+
+/// The text in lines of at most 120 characters, cut before a `∷`.
+fn wrapped(text: &str) -> String {
+    let mut parts = text.split(" ∷ ");
+    let mut lines = parts.next().unwrap_or("").to_string();
+    let mut width = lines.chars().count();
+    for part in parts {
+        let count = part.chars().count() + 3;
+        let fits = width + count <= 116;
+        lines.push_str(if fits { " ∷ " } else { "\n    ∷ " });
+        lines.push_str(part);
+        width = if fits { width + count } else { count };
+    }
+    lines
+}
+
+fn box_text(intervals: &[Interval]) -> String {
+    list(intervals.iter().map(|&ends| format!("({})", interval(ends))))
+}
+
+/// The code, by its work alone where it has the common opening and closing.
+fn code_text(code: &[u32]) -> String {
+    let (opening, closing) = (opening(), closing());
+    let work = code.strip_prefix(&opening[..]).and_then(|rest| rest.strip_suffix(&closing[..]));
+    let words = |code: &[u32]| list(code.iter().map(|word| format!("0x{word:08X}")));
+    match work {
+        Some(work) => format!("(reads {})", words(work)),
+        None => words(code),
+    }
+}
+
+/// The registers that are not as at the start.
+fn registers_text(registers: &[Interval; 32]) -> String {
+    let mut start = [(0, 0); 32];
+    start[2] = (oracle::STACK_START, oracle::STACK_START);
+    let changed = (0..32).filter(|&register| registers[register] != start[register]);
+    list(changed.map(|register| format!("({register}, {})", interval(registers[register]))))
+}
+
+fn path_text(path: &Path) -> String {
+    format!(
+        "path {} {} {} {} {} {}",
+        end_text(path.kind, path.reason),
+        number(path.pc),
+        path.steps,
+        box_text(&path.boxes),
+        path.reads,
+        registers_text(&path.registers)
+    )
+}
+
+fn write_example(text: &mut String, example: &Example, separator: &str) {
+    let job = &example.job;
+    let memory = list(job.memory.iter().map(|&word| number(word)));
+    let intervals = box_text(&job.intervals);
+    let code = code_text(&job.code);
+    writeln!(text, "    -- {}", example.name).unwrap();
+    writeln!(text, "    {}", wrapped(&format!("{separator}example {code}"))).unwrap();
+    writeln!(text, "    {memory} {} {intervals} {}", job.limit, job.entries).unwrap();
+    let mut open = "(";
+    for path in oracle::listing(job) {
+        writeln!(text, "    {}", wrapped(&format!("{open}{}", path_text(&path)))).unwrap();
+        open = "∷ ";
+    }
+    writeln!(text, "    ∷ [])").unwrap();
+}
+
+fn write_table(text: &mut String, table: &Table) {
+    writeln!(text, "\n-- {}", table.shows).unwrap();
+    writeln!(text, "abbrev pub {} : List (Job × List Path)", table.name).unwrap();
+    writeln!(text, "{} =", table.name).unwrap();
+    let mut separator = "";
+    for example in &table.examples {
+        write_example(text, example, separator);
+        separator = "∷ ";
+    }
+    writeln!(text, "    ∷ []").unwrap();
+}
+
+fn file_text(tables: &[Table]) -> String {
+    let mut text = HEAD.to_string();
+    for table in tables {
+        write_table(&mut text, table);
+    }
+    let names: Vec<&str> = tables.iter().map(|table| table.name).collect();
+    text.push_str("\nabbrev pub table : List (Job × List Path)\n");
+    writeln!(text, "table =\n    {}", names.join("\n    ++ ")).unwrap();
+    text.push_str(TAIL);
+    text
+}
+
+const HEAD: &str = "\
+-- Small jobs with their whole listings, computed by the moves over all the choices of a box. The program host/listings.rs
+-- writes this file: what is expected comes from the brute-force oracle there, which knows document 01 alone.
+-- Assumes nothing.
+use mathlib.Core.Path.{_≡_, refl}
+use mathlib.Core.List.{List, [], _∷_, _++_, map, flatMap}
+use Prim.Native.Nat.{ℕ, _-_, _^_}
+use lib.ListN.{length, set, replicate}
+use Rattle.boxes.specs.Boxes.{Box, Interval, _⋯_, from, width, values, choices, size}
+use Rattle.boxes.specs.Boxes.{best, least, greatest, every, same, low, high, fixed}
+use Rattle.boxes.specs.Boxes.{keep, classes, hull, piece, pieces}
+use Rattle.riscu.specs.Word.{signed, widen, powerBelow}
+use Rattle.riscu.specs.Decode.{rows, search, decodeOf}
+use Rattle.riscu.specs.Machine.{start, operate, readNext, step, fetch, stepDecoded, run}
+use Rattle.listing.specs.Group.{Job, after, sortOf, comparison, classOf}
+use Rattle.listing.specs.Ending.{first, anyPower, operationPoints, points, writes, needs, endAt, endBy}
+use Rattle.listing.specs.Listing.{Path, pathOf, splitBy, moveBy, moveFrom, moves, begin, enough, listing}
+use Rattle.listing.specs.declared.Reason.the-variants.{BothOpen, Multiplier, Divisor, DivisorOpen}
+use Rattle.listing.specs.declared.Reason.the-variants.{Quotients, BaseOpen, CallOpen}
+use Rattle.listing.specs.declared.End.{End}
+use Rattle.listing.specs.declared.End.the-variants.{Exit, DivisionByZero, BadPc, BadWord, BadAddress}
+use Rattle.listing.specs.declared.End.the-variants.{BadCall, StepLimit, NotFollowed, TraceFull}
+
+abbrev top : ℕ
+top = 2 ^ 64 - 1
+
+abbrev half : ℕ
+half = 2 ^ 63
+
+-- the starting registers, but for those listed
+abbrev pub registers : List (ℕ × Interval) → List Interval
+registers [] = set (replicate 32 (0 ⋯ 0)) 2 (4096 ⋯ 4096)
+registers ((r, v) ∷ l) = set (registers l) r v
+
+-- end, pc, steps, box, inputs read, registers
+abbrev pub path : End → ℕ → ℕ → Box → ℕ → List (ℕ × Interval) → Path
+path e p s b n l = record { end = e; pc = p; steps = s; box = b; reads = n; registers = registers l }
+
+-- a program that reads an input to address 0 and loads it into register 5, does some work, and exits with register 10
+abbrev pub reads : List ℕ → List ℕ
+reads work =
+    (0x03F00893 ∷ 0x00800613 ∷ 0x00000073 ∷ 0x00003283 ∷ []) ++ work ++ (0x05D00893 ∷ 0x00000073 ∷ [])
+
+-- code, the first words of memory (the rest are 0), limit, box and entries; and the listing
+abbrev pub example : List ℕ → List ℕ → ℕ → Box → ℕ → List Path → Job × List Path
+example c m l b n ps =
+    (record { code = c; memory = m ++ replicate (512 - length m) 0; limit = l; box = b; entries = n }, ps)
+";
+
+const TAIL: &str = "
+abbrev listed : Job × List Path → List Path
+listed x = listing (x .0)
+
+abbrev expected : Job × List Path → List Path
+expected x = x .1
+
+-- the whole table, by one computation
+pub examples-right : map listed table ≡ map expected table
+unfolding listing enough moves moveFrom moveBy splitBy pathOf begin
+    endBy endAt needs writes points operationPoints powerBelow anyPower first
+    from width values choices flatMap size best least greatest every same low high fixed keep classes hull piece pieces
+    classOf sortOf comparison after run stepDecoded fetch step readNext operate start decodeOf search rows signed widen
+examples-right = refl
+";
+
+// ---------------------------------------------------------------------------------------------
+
+/// Every kind and every reason is the end of some path.
+fn assert_covered(tables: &[Table]) {
+    let examples = tables.iter().flat_map(|table| &table.examples);
+    let paths: Vec<Path> = examples.flat_map(|example| oracle::listing(&example.job)).collect();
+    for kind in 1..=9 {
+        assert!(paths.iter().any(|path| path.kind == kind), "no path of kind {}", kind);
+    }
+    for reason in 1..=7 {
+        assert!(paths.iter().any(|path| path.reason == reason), "no path of reason {}", reason);
+    }
+}
+
+fn main() {
+    let tables = tables();
+    assert_covered(&tables);
+    let text = file_text(&tables);
+    let arguments: Vec<String> = std::env::args().skip(1).collect();
+    match arguments.iter().map(String::as_str).collect::<Vec<_>>()[..] {
+        [] => print!("{text}"),
+        ["--check", file] => check(file, &text),
+        _ => stop("usage: listings [--check FILE]"),
+    }
+}
+
+fn check(file: &str, text: &str) {
+    match std::fs::read_to_string(file) {
+        Ok(stored) if stored == text => println!("{file} is as written"),
+        Ok(_) => stop(&format!("{file} differs from what listings writes")),
+        Err(error) => stop(&format!("{file}: {error}")),
+    }
+}
+
+fn stop(message: &str) -> ! {
+    eprintln!("{message}");
+    std::process::exit(1)
+}

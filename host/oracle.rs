@@ -1,0 +1,1069 @@
+//! A brute-force oracle for the interval path explorer, after document 01.
+//!
+//! A group holds every choice of its box, each with a plain machine of its own; a value is fixed if
+//! all of them give the same, and pieces are made by sorting the choices. Nothing is computed from
+//! the ends of intervals alone, so it is slow and plain: boxes of up to some 100,000 choices.
+
+#![allow(dead_code)] // a program that includes this module uses a part of it
+
+use std::collections::BTreeMap;
+use std::rc::Rc;
+
+pub const MEMORY_WORDS: usize = 512;
+pub const STACK_START: u64 = 4096;
+pub const HIGHEST_ADDRESS: u64 = 4088;
+pub const READ: u64 = 63;
+pub const EXIT: u64 = 93;
+pub const WORDS_PER_ENTRY: usize = 8;
+pub const BLOCK_WORDS: usize = 64;
+pub const BLOCK_BYTES: usize = 512;
+pub const PATH_BYTES: usize = 2 * BLOCK_BYTES;
+
+// Kinds, as document 01 numbers them.
+pub const EXITED: u64 = 1;
+pub const DIVISION_BY_ZERO: u64 = 2;
+pub const BAD_PC: u64 = 3;
+pub const BAD_WORD: u64 = 4;
+pub const BAD_ADDRESS: u64 = 5;
+pub const BAD_CALL: u64 = 6;
+pub const STEP_LIMIT: u64 = 7;
+pub const NOT_FOLLOWED: u64 = 8;
+pub const TRACE_FULL: u64 = 9;
+
+// Reasons of kind 8.
+pub const BOTH_OPEN: u64 = 1;
+pub const MULTIPLIER: u64 = 2;
+pub const DIVISOR: u64 = 3;
+pub const DIVISOR_OPEN: u64 = 4;
+pub const QUOTIENTS: u64 = 5;
+pub const BASE_OPEN: u64 = 6;
+pub const CALL_OPEN: u64 = 7;
+
+/// Low and high, both included.
+pub type Interval = (u64, u64);
+
+// ---------------------------------------------------------------------------------------------
+// The decoder: one line for each row of the instruction table.
+
+#[derive(Clone, Copy, Debug, PartialEq, Eq)]
+pub enum Operation {
+    Add,
+    Sub,
+    Mul,
+    Divu,
+    Remu,
+    Sltu,
+}
+
+/// Immediates are already widened to words, in two's complement.
+#[derive(Clone, Copy, Debug, PartialEq, Eq)]
+pub enum Instruction {
+    Lui { rd: usize, imm: u64 },
+    Addi { rd: usize, rs1: usize, imm: u64 },
+    Register { operation: Operation, rd: usize, rs1: usize, rs2: usize },
+    Ld { rd: usize, rs1: usize, imm: u64 },
+    Sd { rs1: usize, rs2: usize, imm: u64 },
+    Beq { rs1: usize, rs2: usize, imm: u64 },
+    Jal { rd: usize, imm: u64 },
+    Jalr { rd: usize, rs1: usize, imm: u64 },
+    Ecall,
+}
+
+fn bits(word: u32, from: u32, count: u32) -> u32 {
+    (word >> from) & ((1 << count) - 1)
+}
+
+/// The lowest `width` bits of a value as a signed number, as a word of 64 bits.
+fn sign_extend(value: u32, width: u32) -> u64 {
+    let unused = 64 - width;
+    (((value as u64) << unused) as i64 >> unused) as u64
+}
+
+fn imm_i(word: u32) -> u64 {
+    sign_extend(bits(word, 20, 12), 12)
+}
+
+fn imm_s(word: u32) -> u64 {
+    sign_extend(bits(word, 25, 7) << 5 | bits(word, 7, 5), 12)
+}
+
+fn imm_b(word: u32) -> u64 {
+    let high = bits(word, 31, 1) << 12 | bits(word, 7, 1) << 11;
+    sign_extend(high | bits(word, 25, 6) << 5 | bits(word, 8, 4) << 1, 13)
+}
+
+fn imm_u(word: u32) -> u64 {
+    sign_extend(bits(word, 12, 20) << 12, 32)
+}
+
+fn imm_j(word: u32) -> u64 {
+    let high = bits(word, 31, 1) << 20 | bits(word, 12, 8) << 12;
+    sign_extend(high | bits(word, 20, 1) << 11 | bits(word, 21, 10) << 1, 21)
+}
+
+/// What a word means; none if it matches no row.
+pub fn decode(word: u32) -> Option<Instruction> {
+    let rd = bits(word, 7, 5) as usize;
+    let rs1 = bits(word, 15, 5) as usize;
+    let rs2 = bits(word, 20, 5) as usize;
+    let register = |operation| Some(Instruction::Register { operation, rd, rs1, rs2 });
+    match (bits(word, 0, 7), bits(word, 12, 3), bits(word, 25, 7)) {
+        (55, _, _) => Some(Instruction::Lui { rd, imm: imm_u(word) }),
+        (19, 0, _) => Some(Instruction::Addi { rd, rs1, imm: imm_i(word) }),
+        (51, 0, 0) => register(Operation::Add),
+        (51, 0, 32) => register(Operation::Sub),
+        (51, 0, 1) => register(Operation::Mul),
+        (51, 5, 1) => register(Operation::Divu),
+        (51, 7, 1) => register(Operation::Remu),
+        (51, 3, 0) => register(Operation::Sltu),
+        (3, 3, _) => Some(Instruction::Ld { rd, rs1, imm: imm_i(word) }),
+        (35, 3, _) => Some(Instruction::Sd { rs1, rs2, imm: imm_s(word) }),
+        (99, 0, _) => Some(Instruction::Beq { rs1, rs2, imm: imm_b(word) }),
+        (111, _, _) => Some(Instruction::Jal { rd, imm: imm_j(word) }),
+        (103, 0, _) => Some(Instruction::Jalr { rd, rs1, imm: imm_i(word) }),
+        _ if word == 115 => Some(Instruction::Ecall),
+        _ => None,
+    }
+}
+
+// ---------------------------------------------------------------------------------------------
+// The plain machine.
+
+/// Memory as lent, shared by all machines of a job, and the words that this machine wrote.
+#[derive(Clone, Debug)]
+pub struct Memory {
+    lent: Rc<Vec<u64>>,
+    written: BTreeMap<usize, u64>,
+}
+
+impl Memory {
+    /// Words beyond those lent are 0.
+    pub fn new(lent: &[u64]) -> Memory {
+        assert!(lent.len() <= MEMORY_WORDS, "memory has {} words", lent.len());
+        Memory { lent: Rc::new(lent.to_vec()), written: BTreeMap::new() }
+    }
+
+    pub fn load(&self, index: usize) -> u64 {
+        let lent = self.lent.get(index).copied().unwrap_or(0);
+        self.written.get(&index).copied().unwrap_or(lent)
+    }
+
+    fn store(&mut self, index: usize, value: u64) {
+        self.written.insert(index, value);
+    }
+
+    pub fn words(&self) -> Vec<u64> {
+        (0..MEMORY_WORDS).map(|index| self.load(index)).collect()
+    }
+}
+
+#[derive(Clone, Debug)]
+pub struct Machine {
+    pub pc: u64,
+    pub registers: [u64; 32],
+    pub memory: Memory,
+    pub reads: usize,
+}
+
+impl Machine {
+    pub fn start(memory: Memory) -> Machine {
+        let mut registers = [0; 32];
+        registers[2] = STACK_START;
+        Machine { pc: 0, registers, memory, reads: 0 }
+    }
+
+    fn put(&mut self, register: usize, value: u64) {
+        // register 0 stays 0
+        if register != 0 {
+            self.registers[register] = value;
+        }
+    }
+
+    fn offset(&self, register: usize, imm: u64) -> u64 {
+        self.registers[register].wrapping_add(imm)
+    }
+
+    fn advance(&mut self) {
+        self.pc = self.pc.wrapping_add(4);
+    }
+
+    /// One instruction completed; the caller has made sure that nothing stops the machine at it.
+    fn step(&mut self, instruction: Instruction, inputs: &[u64]) {
+        match instruction {
+            Instruction::Lui { rd, imm } => self.write(rd, imm),
+            Instruction::Addi { rd, rs1, imm } => self.write(rd, self.offset(rs1, imm)),
+            Instruction::Register { operation, rd, rs1, rs2 } => {
+                self.operate(operation, rd, rs1, rs2)
+            }
+            Instruction::Ld { rd, rs1, imm } => {
+                self.write(rd, self.memory.load(self.offset(rs1, imm) as usize / 8))
+            }
+            Instruction::Sd { rs1, rs2, imm } => {
+                self.memory.store(self.offset(rs1, imm) as usize / 8, self.registers[rs2]);
+                self.advance();
+            }
+            Instruction::Beq { rs1, rs2, imm } => {
+                let taken = self.registers[rs1] == self.registers[rs2];
+                self.pc = self.pc.wrapping_add(if taken { imm } else { 4 });
+            }
+            Instruction::Jal { rd, imm } => self.jump(rd, self.pc.wrapping_add(imm)),
+            Instruction::Jalr { rd, rs1, imm } => self.jump(rd, self.offset(rs1, imm) & !1),
+            Instruction::Ecall => self.read(inputs),
+        }
+    }
+
+    fn write(&mut self, rd: usize, value: u64) {
+        self.put(rd, value);
+        self.advance();
+    }
+
+    /// The target is computed before the link is written: they may be one register.
+    fn jump(&mut self, rd: usize, target: u64) {
+        self.put(rd, self.pc.wrapping_add(4));
+        self.pc = target;
+    }
+
+    fn operate(&mut self, operation: Operation, rd: usize, rs1: usize, rs2: usize) {
+        // into register 0 nothing is computed: a divisor may be 0 there
+        if rd != 0 {
+            self.registers[rd] = result(operation, self.registers[rs1], self.registers[rs2]);
+        }
+        self.advance();
+    }
+
+    fn read(&mut self, inputs: &[u64]) {
+        let left = self.reads < inputs.len();
+        if left {
+            self.memory.store(self.registers[11] as usize / 8, inputs[self.reads]);
+            self.reads += 1;
+        }
+        self.write(10, if left { 8 } else { 0 });
+    }
+}
+
+fn result(operation: Operation, a: u64, b: u64) -> u64 {
+    match operation {
+        Operation::Add => a.wrapping_add(b),
+        Operation::Sub => a.wrapping_sub(b),
+        Operation::Mul => a.wrapping_mul(b),
+        Operation::Divu => a / b,
+        Operation::Remu => a % b,
+        Operation::Sltu => (a < b) as u64,
+    }
+}
+
+/// The word at pc; none if pc is not a multiple of 4 or is beyond the code.
+fn word_at(code: &[u32], pc: u64) -> Option<u32> {
+    let inside = pc % 4 == 0 && pc / 4 < code.len() as u64;
+    inside.then(|| code[(pc / 4) as usize])
+}
+
+fn bad_address(address: u64) -> bool {
+    address % 8 != 0 || address > HIGHEST_ADDRESS
+}
+
+// ---------------------------------------------------------------------------------------------
+// One run of the plain machine, for a choice of any box.
+
+/// Where a run is: after `steps` instructions, and the kind that stopped it if one did.
+#[derive(Clone, Debug)]
+pub struct Run {
+    pub machine: Machine,
+    pub steps: u64,
+    pub stop: Option<u64>,
+}
+
+/// At most `steps` instructions for one choice; kinds 1 to 6 stop it before.
+pub fn run_plain(code: &[u32], memory: &[u64], inputs: &[u64], steps: u64) -> Run {
+    let mut run = Run { machine: Machine::start(Memory::new(memory)), steps: 0, stop: None };
+    while run.steps < steps {
+        match next_plain(code, &run.machine) {
+            Err(kind) => {
+                run.stop = Some(kind);
+                return run;
+            }
+            Ok(instruction) => run.machine.step(instruction, inputs),
+        }
+        run.steps += 1;
+    }
+    run
+}
+
+/// A completed step of a run: where it was, how the fork rules sort it, the entries for its writes.
+#[derive(Clone, Copy, Debug, PartialEq, Eq, PartialOrd, Ord)]
+pub struct Step {
+    pub pc: u64,
+    pub class: u64,
+    pub writes: u64,
+}
+
+/// The steps of a run; a stop ends it. Two choices fell in the same piece at every fork exactly if
+/// these are the same.
+pub fn trace_plain(code: &[u32], memory: &[u64], inputs: &[u64], steps: u64) -> Vec<Step> {
+    let mut machine = Machine::start(Memory::new(memory));
+    let mut trace = Vec::new();
+    while (trace.len() as u64) < steps {
+        let Ok(instruction) = next_plain(code, &machine) else { break };
+        let class = class_of(&machine, instruction);
+        let writes = writes(instruction, machine.reads < inputs.len());
+        trace.push(Step { pc: machine.pc, class, writes });
+        machine.step(instruction, inputs);
+    }
+    trace
+}
+
+/// The instruction that the machine completes next, or the kind that stops it there.
+fn next_plain(code: &[u32], machine: &Machine) -> Result<Instruction, u64> {
+    let word = word_at(code, machine.pc).ok_or(BAD_PC)?;
+    let instruction = decode(word).ok_or(BAD_WORD)?;
+    match plain_stop(machine, instruction) {
+        Some(kind) => Err(kind),
+        None => Ok(instruction),
+    }
+}
+
+/// Points 5, 6, 7 and 9 of the ending order, for one machine.
+fn plain_stop(machine: &Machine, instruction: Instruction) -> Option<u64> {
+    let value = |register: usize| machine.registers[register];
+    match instruction {
+        Instruction::Ecall => call_stop(value(17), value(10), value(11), value(12)),
+        Instruction::Ld { rs1, imm, .. } | Instruction::Sd { rs1, imm, .. } => {
+            bad_address(machine.offset(rs1, imm)).then_some(BAD_ADDRESS)
+        }
+        Instruction::Register { operation: Operation::Divu | Operation::Remu, rd, rs2, .. } => {
+            (rd != 0 && value(rs2) == 0).then_some(DIVISION_BY_ZERO)
+        }
+        _ => None,
+    }
+}
+
+/// How ECALL stops: points 5, 6 and 9, on the registers 17, 10, 11 and 12.
+fn call_stop(number: u64, file: u64, address: u64, count: u64) -> Option<u64> {
+    if number == EXIT {
+        Some(EXITED)
+    } else if number != READ || file != 0 || count != 8 {
+        Some(BAD_CALL)
+    } else if bad_address(address) {
+        Some(BAD_ADDRESS)
+    } else {
+        None
+    }
+}
+
+// ---------------------------------------------------------------------------------------------
+// Groups: a box with all of its choices.
+
+/// What an accepted call lends; memory beyond the words given is 0.
+#[derive(Clone, Debug)]
+pub struct Job {
+    pub code: Vec<u32>,
+    pub memory: Vec<u64>,
+    pub limit: u64,
+    pub intervals: Vec<Interval>,
+    pub entries: u64,
+}
+
+/// An ended path; its number is its place in the listing. `reason` is 0 unless the kind is 8.
+#[derive(Clone, Debug, PartialEq, Eq)]
+pub struct Path {
+    pub kind: u64,
+    pub reason: u64,
+    pub pc: u64,
+    pub steps: u64,
+    pub boxes: Vec<Interval>,
+    pub reads: u64,
+    pub registers: [Interval; 32],
+}
+
+#[derive(Clone)]
+struct Choice {
+    inputs: Rc<Vec<u64>>,
+    machine: Machine,
+}
+
+struct Group {
+    choices: Vec<Choice>,
+    steps: u64,
+    used: u64,
+}
+
+/// Every way to take one value from each interval.
+fn all_inputs(intervals: &[Interval]) -> Vec<Vec<u64>> {
+    let mut all = vec![Vec::new()];
+    for &(low, high) in intervals {
+        let longer = |inputs: &Vec<u64>| {
+            let inputs = inputs.clone();
+            (low..=high).map(move |value| [inputs.as_slice(), &[value]].concat())
+        };
+        all = all.iter().flat_map(longer).collect();
+    }
+    all
+}
+
+fn starting_group(job: &Job) -> Group {
+    let machine = Machine::start(Memory::new(&job.memory));
+    let start = |inputs| Choice { inputs: Rc::new(inputs), machine: machine.clone() };
+    let choices = all_inputs(&job.intervals).into_iter().map(start).collect();
+    Group { choices, steps: 0, used: 0 }
+}
+
+impl Group {
+    fn low_high(&self, value: impl Fn(&Choice) -> u64) -> Interval {
+        let low = self.choices.iter().map(&value).min();
+        let high = self.choices.iter().map(&value).max();
+        (low.expect("a group has a choice"), high.expect("a group has a choice"))
+    }
+
+    fn register(&self, register: usize) -> Interval {
+        self.low_high(|choice| choice.machine.registers[register])
+    }
+
+    /// Every choice in the present box gives the same value.
+    fn is_fixed(&self, register: usize) -> bool {
+        let (low, high) = self.register(register);
+        low == high
+    }
+
+    fn is_open(&self, register: usize) -> bool {
+        !self.is_fixed(register)
+    }
+
+    /// The value of a fixed register.
+    fn value(&self, register: usize) -> u64 {
+        let (low, high) = self.register(register);
+        assert!(low == high, "register {} is not fixed", register);
+        low
+    }
+
+    /// What all choices must share: they have fallen in the same pieces.
+    fn shared(&self, value: impl Fn(&Choice) -> u64) -> u64 {
+        let (low, high) = self.low_high(value);
+        assert!(low == high, "choices of one group went apart");
+        low
+    }
+
+    fn pc(&self) -> u64 {
+        self.shared(|choice| choice.machine.pc)
+    }
+
+    fn reads(&self) -> u64 {
+        self.shared(|choice| choice.machine.reads as u64)
+    }
+
+    fn input_count(&self) -> usize {
+        self.choices[0].inputs.len()
+    }
+
+    /// The box of the choices: each input's least and greatest value.
+    fn intervals(&self) -> Vec<Interval> {
+        (0..self.input_count()).map(|input| self.low_high(|choice| choice.inputs[input])).collect()
+    }
+
+    /// A box has all the choices between its lows and highs; a group must be one.
+    fn is_box(&self) -> bool {
+        let size = |(low, high): Interval| (high - low) as usize + 1;
+        self.intervals().into_iter().map(size).product::<usize>() == self.choices.len()
+    }
+}
+
+// ---------------------------------------------------------------------------------------------
+// The ending order.
+
+/// A kind and its reason.
+pub type End = (u64, u64);
+
+/// The instruction that a group completes next and the trace entries that it takes, or the group's end.
+fn decide(job: &Job, group: &Group) -> Result<(Instruction, u64), End> {
+    if group.steps == job.limit {
+        return Err((STEP_LIMIT, 0));
+    }
+    let word = word_at(&job.code, group.pc()).ok_or((BAD_PC, 0))?;
+    let instruction = decode(word).ok_or((BAD_WORD, 0))?;
+    if let Some(end) = end_at(group, instruction) {
+        return Err(end);
+    }
+    let needed = entries_needed(group, instruction);
+    if needed > job.entries - group.used {
+        return Err((TRACE_FULL, 0));
+    }
+    Ok((instruction, needed))
+}
+
+/// The end of a group of any size, by the choices at its lows and at its highs alone: where every
+/// value only rises or only falls with one input, these decide.
+pub fn end_by_corners(job: &Job, intervals: &[Interval], steps: u64, used: u64) -> Option<End> {
+    let corner = |end: fn(&Interval) -> u64| {
+        let inputs: Vec<u64> = intervals.iter().map(end).collect();
+        let machine = run_plain(&job.code, &job.memory, &inputs, steps).machine;
+        Choice { inputs: Rc::new(inputs), machine }
+    };
+    let choices = vec![corner(|ends| ends.0), corner(|ends| ends.1)];
+    decide(job, &Group { choices, steps, used }).err()
+}
+
+/// Points 4 to 9.
+fn end_at(group: &Group, instruction: Instruction) -> Option<End> {
+    match instruction {
+        Instruction::Ecall => call_end(group),
+        Instruction::Ld { rs1, imm, .. } | Instruction::Sd { rs1, imm, .. } => {
+            data_end(group, rs1, imm)
+        }
+        Instruction::Jalr { rs1, .. } if group.is_open(rs1) => Some((NOT_FOLLOWED, BASE_OPEN)),
+        Instruction::Beq { rs1, rs2, .. } => both_open(group, rs1, rs2),
+        // arithmetic into register 0 skips points 7 and 8
+        Instruction::Register { operation, rd, rs1, rs2 } if rd != 0 => match operation {
+            Operation::Divu | Operation::Remu => division_end(group, operation, rs1, rs2),
+            Operation::Mul => multiplication_end(group, rs1, rs2),
+            Operation::Add | Operation::Sub | Operation::Sltu => both_open(group, rs1, rs2),
+        },
+        _ => None,
+    }
+}
+
+fn call_end(group: &Group) -> Option<End> {
+    if group.is_open(17) {
+        return Some((NOT_FOLLOWED, CALL_OPEN));
+    }
+    let read = group.value(17) == READ;
+    if read && [10, 11, 12].iter().any(|&register| group.is_open(register)) {
+        return Some((NOT_FOLLOWED, CALL_OPEN));
+    }
+    // the registers that decide are fixed, so any choice's machine tells
+    plain_stop(&group.choices[0].machine, Instruction::Ecall).map(|kind| (kind, 0))
+}
+
+fn data_end(group: &Group, base: usize, imm: u64) -> Option<End> {
+    if group.is_open(base) {
+        return Some((NOT_FOLLOWED, BASE_OPEN));
+    }
+    let address = group.value(base).wrapping_add(imm);
+    bad_address(address).then_some((BAD_ADDRESS, 0))
+}
+
+fn both_open(group: &Group, rs1: usize, rs2: usize) -> Option<End> {
+    let open = group.is_open(rs1) && group.is_open(rs2);
+    open.then_some((NOT_FOLLOWED, BOTH_OPEN))
+}
+
+fn division_end(group: &Group, operation: Operation, rs1: usize, rs2: usize) -> Option<End> {
+    if group.is_open(rs2) {
+        return Some((NOT_FOLLOWED, DIVISOR_OPEN));
+    }
+    let divisor = group.value(rs2);
+    if divisor == 0 {
+        return Some((DIVISION_BY_ZERO, 0));
+    }
+    if group.is_fixed(rs1) {
+        return None;
+    }
+    let (low, high) = group.register(rs1);
+    match operation {
+        Operation::Divu if !divisor.is_power_of_two() => Some((NOT_FOLLOWED, DIVISOR)),
+        Operation::Remu if high / divisor - low / divisor > 1 => Some((NOT_FOLLOWED, QUOTIENTS)),
+        _ => None,
+    }
+}
+
+fn multiplication_end(group: &Group, rs1: usize, rs2: usize) -> Option<End> {
+    let (open, fixed) = match (group.is_open(rs1), group.is_open(rs2)) {
+        (true, true) => return Some((NOT_FOLLOWED, BOTH_OPEN)),
+        (false, false) => return None,
+        (true, false) => (rs1, rs2),
+        (false, true) => (rs2, rs1),
+    };
+    let multiplier = group.value(fixed);
+    if multiplier != 0 && !multiplier.is_power_of_two() {
+        return Some((NOT_FOLLOWED, MULTIPLIER));
+    }
+    let (low, high) = group.register(open);
+    let apart = high_half(high, multiplier) - high_half(low, multiplier);
+    (apart > 1).then_some((NOT_FOLLOWED, QUOTIENTS))
+}
+
+/// The product div 2^64.
+fn high_half(a: u64, b: u64) -> u64 {
+    ((a as u128 * b as u128) >> 64) as u64
+}
+
+// ---------------------------------------------------------------------------------------------
+// Forks: the choices sorted into pieces.
+
+/// What a fork rule sorts a choice by: wrap, quotient or comparison.
+fn class_of(machine: &Machine, instruction: Instruction) -> u64 {
+    let value = |register: usize| machine.registers[register];
+    match instruction {
+        // nothing is computed into register 0
+        Instruction::Addi { rd: 0, .. } | Instruction::Register { rd: 0, .. } => 0,
+        Instruction::Addi { rs1, imm, .. } => value(rs1).overflowing_add(imm).1 as u64,
+        Instruction::Register { operation, rs1, rs2, .. } => {
+            operation_class(operation, value(rs1), value(rs2))
+        }
+        // less, equal and greater
+        Instruction::Beq { rs1, rs2, .. } => value(rs1).cmp(&value(rs2)) as i8 as u64,
+        _ => 0,
+    }
+}
+
+fn operation_class(operation: Operation, a: u64, b: u64) -> u64 {
+    match operation {
+        Operation::Add => a.overflowing_add(b).1 as u64,
+        Operation::Sub => a.overflowing_sub(b).1 as u64,
+        Operation::Mul => high_half(a, b),
+        Operation::Divu => 0,
+        Operation::Remu => a / b,
+        Operation::Sltu => (a < b) as u64,
+    }
+}
+
+/// Point 10: an entry for each write, and one more for a fork.
+fn entries_needed(group: &Group, instruction: Instruction) -> u64 {
+    let class = |choice: &Choice| class_of(&choice.machine, instruction);
+    let (low, high) = group.low_high(class);
+    let input_left = group.reads() < group.input_count() as u64;
+    writes(instruction, input_left) + (low != high) as u64
+}
+
+/// The registers (not 0) and memory words that a step writes.
+fn writes(instruction: Instruction, input_left: bool) -> u64 {
+    match instruction {
+        Instruction::Lui { rd, .. }
+        | Instruction::Addi { rd, .. }
+        | Instruction::Register { rd, .. }
+        | Instruction::Ld { rd, .. }
+        | Instruction::Jal { rd, .. }
+        | Instruction::Jalr { rd, .. } => (rd != 0) as u64,
+        Instruction::Sd { .. } => 1,
+        Instruction::Beq { .. } => 0,
+        // register 10, and the word where an input is left
+        Instruction::Ecall => 1 + input_left as u64,
+    }
+}
+
+/// The pieces of a group, one step later.
+fn split(group: Group, instruction: Instruction, needed: u64) -> Vec<Group> {
+    let (steps, used) = (group.steps + 1, group.used + needed);
+    let mut classes: BTreeMap<u64, Vec<Choice>> = BTreeMap::new();
+    for mut choice in group.choices {
+        let class = class_of(&choice.machine, instruction);
+        choice.machine.step(instruction, &choice.inputs);
+        classes.entry(class).or_default().push(choice);
+    }
+    let piece = |choices| Group { choices, steps, used };
+    in_rising_order(classes.into_values().map(piece).collect())
+}
+
+/// Pieces differ in one input alone, the input cut: they are put in its rising order.
+fn in_rising_order(mut pieces: Vec<Group>) -> Vec<Group> {
+    if pieces.len() == 1 {
+        return pieces;
+    }
+    assert!(pieces.iter().all(Group::is_box), "a piece is not a box");
+    pieces.sort_by_key(Group::intervals);
+    for pair in pieces.windows(2) {
+        let (below, above) = (pair[0].intervals(), pair[1].intervals());
+        let cut = below.iter().zip(&above).filter(|(b, a)| b != a);
+        let rising: Vec<bool> = cut.map(|(b, a)| b.1 < a.0).collect();
+        assert!(rising == [true], "a fork must cut one input");
+    }
+    pieces
+}
+
+// ---------------------------------------------------------------------------------------------
+// The plain listing.
+
+fn path_of(group: &Group, (kind, reason): End) -> Path {
+    let mut registers = [(0, 0); 32];
+    for (register, interval) in registers.iter_mut().enumerate() {
+        *interval = group.register(register);
+    }
+    Path {
+        kind,
+        reason,
+        pc: group.pc(),
+        steps: group.steps,
+        boxes: group.intervals(),
+        reads: group.reads(),
+        registers,
+    }
+}
+
+/// All the paths of a job, in their order.
+pub fn listing(job: &Job) -> Vec<Path> {
+    let mut ended = Vec::new();
+    // the first waiting group is the last of the vector
+    let mut waiting = vec![starting_group(job)];
+    while let Some(group) = waiting.pop() {
+        match decide(job, &group) {
+            Err(end) => ended.push(path_of(&group, end)),
+            Ok((instruction, needed)) => {
+                waiting.extend(split(group, instruction, needed).into_iter().rev())
+            }
+        }
+    }
+    ended
+}
+
+// ---------------------------------------------------------------------------------------------
+// A whole call: the questions at the door, and the report.
+
+/// The number of the first question that is answered by no.
+pub fn door(
+    code_words: usize,
+    intervals: &[u64],
+    limit: u64,
+    table_words: usize,
+    memory_words: usize,
+    report_bytes: usize,
+    first: u64,
+) -> Option<u64> {
+    let questions = [
+        (1..=1024).contains(&code_words),
+        intervals.len() % 2 == 0 && intervals.len() <= 16,
+        intervals.chunks_exact(2).all(|pair| pair[0] <= pair[1]),
+        (1..=65536).contains(&limit),
+        table_words >= WORDS_PER_ENTRY,
+        memory_words == MEMORY_WORDS,
+        report_bytes % PATH_BYTES == 0 && report_bytes > 0,
+        first < 1 << 32,
+    ];
+    let no = questions.iter().position(|&yes| !yes)?;
+    Some(no as u64 + 1)
+}
+
+/// `refusal` is 0 for an accepted call.
+#[derive(Clone, Copy, Debug, PartialEq, Eq)]
+pub struct Answer {
+    pub refusal: u64,
+    pub count: u64,
+    pub more: bool,
+}
+
+/// The answer to a call, with its report left as the call leaves it.
+pub fn call(
+    code: &[u32],
+    memory: &[u64],
+    intervals: &[u64],
+    limit: u64,
+    table_words: usize,
+    report: &mut [u8],
+    first: u64,
+) -> Answer {
+    let refusal =
+        door(code.len(), intervals, limit, table_words, memory.len(), report.len(), first);
+    if let Some(refusal) = refusal {
+        return Answer { refusal, count: 0, more: false };
+    }
+    let job = Job {
+        code: code.to_vec(),
+        memory: memory.to_vec(),
+        limit,
+        intervals: intervals.chunks_exact(2).map(|pair| (pair[0], pair[1])).collect(),
+        entries: (table_words / WORDS_PER_ENTRY) as u64,
+    };
+    write_page(&listing(&job), report, first)
+}
+
+/// The paths from `first` on, as many as exist and fit.
+pub fn write_page(paths: &[Path], report: &mut [u8], first: u64) -> Answer {
+    let wanted = paths.iter().enumerate().skip(first as usize);
+    let mut count = 0;
+    for ((number, path), place) in wanted.zip(report.chunks_exact_mut(PATH_BYTES)) {
+        let (head, tail) = place.split_at_mut(BLOCK_BYTES);
+        write_block(head, &first_block(number as u64, path));
+        write_block(tail, &second_block(number as u64, path));
+        count += 1;
+    }
+    Answer { refusal: 0, count, more: first + count < paths.len() as u64 }
+}
+
+fn first_block(number: u64, path: &Path) -> [u64; BLOCK_WORDS] {
+    let mut block = [0; BLOCK_WORDS];
+    block[0] = number;
+    block[1] = path.kind;
+    block[2] = path.pc;
+    block[3] = path.steps;
+    block[4] = path.boxes.len() as u64;
+    for (input, &(low, high)) in path.boxes.iter().enumerate() {
+        block[5 + input] = low;
+        block[13 + input] = high;
+    }
+    if path.kind == EXITED {
+        (block[21], block[22]) = path.registers[10];
+    }
+    block[23] = path.reason;
+    block[24] = path.reads;
+    with_check(block)
+}
+
+fn second_block(number: u64, path: &Path) -> [u64; BLOCK_WORDS] {
+    let mut block = [0; BLOCK_WORDS];
+    block[0] = number;
+    for register in 1..32 {
+        (block[2 * register - 1], block[2 * register]) = path.registers[register];
+    }
+    with_check(block)
+}
+
+fn with_check(mut block: [u64; BLOCK_WORDS]) -> [u64; BLOCK_WORDS] {
+    block[BLOCK_WORDS - 1] = check(&block[..BLOCK_WORDS - 1]);
+    block
+}
+
+fn write_block(bytes: &mut [u8], block: &[u64; BLOCK_WORDS]) {
+    for (place, word) in bytes.chunks_exact_mut(8).zip(block) {
+        place.copy_from_slice(&word.to_le_bytes());
+    }
+}
+
+/// The check word of a payload.
+pub fn check(payload: &[u64]) -> u64 {
+    payload.iter().fold(1, |sum: u64, word| sum.rotate_left(1).wrapping_add(*word))
+}
+
+#[cfg(test)]
+mod tests {
+    use super::*;
+
+    const JOB_A: [u32; 8] = [
+        0x03F00893, 0x00800613, 0x00000073, 0x00003283, 0x00A00313, 0x0062B533, 0x05D00893,
+        0x00000073,
+    ];
+
+    fn job(code: &[u32], low: u64, high: u64, limit: u64) -> Job {
+        let (code, intervals) = (code.to_vec(), vec![(low, high)]);
+        Job { code, memory: Vec::new(), limit, intervals, entries: 1024 }
+    }
+
+    /// Reads an input into register 5, does the work and exits with register 10.
+    fn reads(work: &[u32]) -> Vec<u32> {
+        [&JOB_A[..4], work, &JOB_A[6..]].concat()
+    }
+
+    /// Kind, reason, pc, steps, the one input and register 10 of each path.
+    fn lines(job: &Job) -> Vec<(u64, u64, u64, u64, Interval, Interval)> {
+        let line = |path: Path| {
+            let (input, value) = (path.boxes[0], path.registers[10]);
+            (path.kind, path.reason, path.pc, path.steps, input, value)
+        };
+        listing(job).into_iter().map(line).collect()
+    }
+
+    /// The box and the exit value of each path; all of them exit.
+    fn exits(work: &[u32], low: u64, high: u64) -> Vec<(Interval, Interval)> {
+        let lines = lines(&job(&reads(work), low, high, 100));
+        assert!(lines.iter().all(|line| line.0 == EXITED));
+        lines.into_iter().map(|line| (line.4, line.5)).collect()
+    }
+
+    #[test]
+    fn job_a_has_two_paths() {
+        let expected = [(EXITED, 0, 28, 7, (0, 9), (1, 1)), (EXITED, 0, 28, 7, (10, 255), (0, 0))];
+        assert_eq!(lines(&job(&JOB_A, 0, 255, 100)), expected);
+    }
+
+    #[test]
+    fn limit_5_ends_job_a_before_its_fork() {
+        let expected = [(STEP_LIMIT, 0, 20, 5, (0, 255), (8, 8))];
+        assert_eq!(lines(&job(&JOB_A, 0, 255, 5)), expected);
+    }
+
+    #[test]
+    fn limit_7_ends_job_a_after_its_fork() {
+        let expected =
+            [(STEP_LIMIT, 0, 28, 7, (0, 9), (1, 1)), (STEP_LIMIT, 0, 28, 7, (10, 255), (0, 0))];
+        assert_eq!(lines(&job(&JOB_A, 0, 255, 7)), expected);
+    }
+
+    #[test]
+    fn one_entry_ends_job_a_at_4() {
+        let mut job = job(&JOB_A, 0, 255, 100);
+        job.entries = 1;
+        assert_eq!(lines(&job), [(TRACE_FULL, 0, 4, 1, (0, 255), (0, 0))]);
+    }
+
+    #[test]
+    fn a_falling_value_has_its_pieces_in_order_of_the_input() {
+        // 10 - v < 1
+        let work = [0x00A00313, 0x405303B3, 0x00100E13, 0x01C3B533];
+        let expected = [((0, 9), (0, 0)), ((10, 10), (1, 1)), ((11, 255), (0, 0))];
+        assert_eq!(exits(&work, 0, 255), expected);
+    }
+
+    #[test]
+    fn a_sum_forks_where_it_wraps() {
+        // v + 5
+        let expected = [
+            ((u64::MAX - 200, u64::MAX - 5), (u64::MAX - 195, u64::MAX)),
+            ((u64::MAX - 4, u64::MAX), (0, 4)),
+        ];
+        assert_eq!(exits(&[0x00528513], u64::MAX - 200, u64::MAX), expected);
+    }
+
+    #[test]
+    fn a_product_forks_where_it_wraps() {
+        // v * 2, then v * 4
+        let half = 1 << 63;
+        let expected =
+            [((half - 3, half - 1), (u64::MAX - 5, u64::MAX - 1)), ((half, half), (0, 0))];
+        assert_eq!(exits(&[0x00200313, 0x02628533], half - 3, half), expected);
+        let quarter = half >> 1;
+        let expected = [
+            ((quarter - 1, quarter - 1), (u64::MAX - 3, u64::MAX - 3)),
+            ((quarter, quarter + 1), (0, 4)),
+        ];
+        assert_eq!(exits(&[0x00400313, 0x02628533], quarter - 1, quarter + 1), expected);
+    }
+
+    #[test]
+    fn remainders_by_5() {
+        let work = [0x00500313, 0x0262F533];
+        assert_eq!(exits(&work, 3, 6), [((3, 4), (3, 4)), ((5, 6), (0, 1))]);
+        assert_eq!(exits(&work, 3, 7), [((3, 4), (3, 4)), ((5, 7), (0, 2))]);
+        let expected = [(NOT_FOLLOWED, QUOTIENTS, 20, 5, (0, 10), (8, 8))];
+        assert_eq!(lines(&job(&reads(&work), 0, 10, 100)), expected);
+    }
+
+    #[test]
+    fn one_piece_where_nothing_changes() {
+        // v + v for a fixed v; v < 0
+        assert_eq!(exits(&[0x00528533], 5, 5), [((5, 5), (10, 10))]);
+        assert_eq!(exits(&[0x0002B533], 0, 255), [((0, 255), (0, 0))]);
+    }
+
+    #[test]
+    fn ten_tests_of_one_value_have_two_paths() {
+        // a counter in register 7; v < 5 in each turn
+        let work = [0x00500313, 0x00A00393, 0x0062B533, 0xFFF38393, 0x00038463, 0xFF5FF06F];
+        assert_eq!(exits(&work, 0, 255), [((0, 4), (1, 1)), ((5, 255), (0, 0))]);
+    }
+
+    #[test]
+    fn check_of_an_empty_payload() {
+        assert_eq!(check(&[0; BLOCK_WORDS - 1]), 0x8000000000000000);
+    }
+
+    #[test]
+    fn the_questions_come_in_order() {
+        assert_eq!(door(0, &[1], 0, 7, 0, 0, 1 << 32), Some(1));
+        assert_eq!(door(1, &[1, 0, 1], 0, 7, 0, 0, 1 << 32), Some(2));
+        assert_eq!(door(1, &[0; 18], 0, 7, 0, 0, 1 << 32), Some(2));
+        assert_eq!(door(1, &[1, 0], 0, 7, 0, 0, 1 << 32), Some(3));
+        assert_eq!(door(1, &[], 65537, 7, 0, 0, 1 << 32), Some(4));
+        assert_eq!(door(1, &[], 65536, 7, 0, 0, 1 << 32), Some(5));
+        assert_eq!(door(1, &[], 1, 8, 511, 0, 1 << 32), Some(6));
+        assert_eq!(door(1, &[], 1, 8, 512, 512, 1 << 32), Some(7));
+        assert_eq!(door(1, &[], 1, 8, 512, 1024, 1 << 32), Some(8));
+        assert_eq!(door(1024, &[0; 16], 1, 8, 512, 1024, (1 << 32) - 1), None);
+    }
+
+    /// Word k of a report.
+    fn word(report: &[u8], k: usize) -> u64 {
+        let mut bytes = [0; 8];
+        bytes.copy_from_slice(&report[8 * k..8 * k + 8]);
+        u64::from_le_bytes(bytes)
+    }
+
+    #[test]
+    fn a_page_of_job_a() {
+        let mut report = [0xEE; 3 * PATH_BYTES];
+        let answer = call(&JOB_A, &[0; 512], &[0, 255], 100, 8192, &mut report, 1);
+        assert_eq!(answer, Answer { refusal: 0, count: 1, more: false });
+        let head: Vec<u64> = (0..6).map(|k| word(&report, k)).collect();
+        assert_eq!(head, [1, EXITED, 28, 7, 1, 10]);
+        assert_eq!((word(&report, 13), word(&report, 24)), (255, 1));
+        // registers 2 and 17 in the second block
+        assert_eq!((word(&report, 64 + 3), word(&report, 64 + 4)), (4096, 4096));
+        assert_eq!((word(&report, 64 + 33), word(&report, 64 + 34)), (93, 93));
+        for block in 0..2 {
+            let payload: Vec<u64> = (0..63).map(|k| word(&report, 64 * block + k)).collect();
+            assert_eq!(word(&report, 64 * block + 63), check(&payload));
+        }
+        assert!(report[PATH_BYTES..].iter().all(|&byte| byte == 0xEE));
+    }
+
+    #[test]
+    fn pages_of_job_a() {
+        let mut report = [0xEE; PATH_BYTES];
+        let mut page = |first| call(&JOB_A, &[0; 512], &[0, 255], 100, 8192, &mut report, first);
+        assert_eq!(page(0), Answer { refusal: 0, count: 1, more: true });
+        assert_eq!(page(1), Answer { refusal: 0, count: 1, more: false });
+        assert_eq!(page(2), Answer { refusal: 0, count: 0, more: false });
+        assert_eq!(page(1 << 32), Answer { refusal: 8, count: 0, more: false });
+    }
+
+    #[test]
+    fn a_plain_run_of_job_a() {
+        let run = run_plain(&JOB_A, &[0; 512], &[u64::MAX], 100);
+        assert_eq!((run.stop, run.steps, run.machine.pc), (Some(EXITED), 7, 28));
+        assert_eq!((run.machine.reads, run.machine.memory.load(0)), (1, u64::MAX));
+        let run = run_plain(&JOB_A, &[0; 512], &[9], 6);
+        assert_eq!((run.stop, run.steps, run.machine.registers[10]), (None, 6, 1));
+    }
+
+    /// Numbers by xorshift: the same in every run.
+    struct Random(u64);
+
+    impl Random {
+        fn below(&mut self, bound: usize) -> usize {
+            self.0 ^= self.0 << 13;
+            self.0 ^= self.0 >> 7;
+            self.0 ^= self.0 << 17;
+            (self.0 >> 20) as usize % bound
+        }
+
+        fn pick<T: Copy>(&mut self, from: &[T]) -> T {
+            from[self.below(from.len())]
+        }
+
+        /// ADD, SUB, MUL, DIVU, REMU, SLTU, BEQ, ADDI, LD or SD on a few registers.
+        fn word(&mut self) -> u32 {
+            let rows = [0x33, 0x40000033, 0x02000033, 0x02005033, 0x02007033, 0x3033];
+            let short = [0x463, 0x13, 0x00300013, 0xFFD00013, 0x3003, 0x3023];
+            let (rd, rs1) = (self.pick(&[0, 6, 10, 10, 28]), self.pick(&[0, 5, 5, 6, 10]));
+            let word = self.pick(&[rows, short].concat());
+            match word & 0x7F {
+                0x63 | 0x23 => word | rs1 << 15 | self.pick(&[0, 5, 6, 28]) << 20,
+                0x33 => word | rd << 7 | rs1 << 15 | self.pick(&[0, 5, 6, 28]) << 20,
+                _ => word | rd << 7 | rs1 << 15,
+            }
+        }
+
+        fn job(&mut self) -> Job {
+            // register 6 starts with 0 to 9
+            let constant = (self.below(10) as u32) << 20 | 6 << 7 | 0x13;
+            let work: Vec<u32> = (0..3 + self.below(6)).map(|_| self.word()).collect();
+            let low = self.pick(&[0, 3, (1 << 63) - 4, u64::MAX - 9]);
+            let mut job = job(&reads(&[&[constant], &work[..]].concat()), low, low + 9, 100);
+            job.limit = 6 + self.below(10) as u64;
+            job.entries = 6 + self.below(10) as u64;
+            job
+        }
+    }
+
+    /// The plain machine has the path's end for this choice.
+    fn agrees(job: &Job, path: &Path, inputs: &[u64]) -> bool {
+        // kinds 7, 8 and 9 stop the engine and not the machine
+        let stop = if path.kind < STEP_LIMIT { Some(path.kind) } else { None };
+        let steps = path.steps + stop.is_some() as u64;
+        let run = run_plain(&job.code, &job.memory, inputs, steps);
+        let within = |(value, ends): (&u64, &Interval)| ends.0 <= *value && *value <= ends.1;
+        (run.stop, run.steps, run.machine.pc) == (stop, path.steps, path.pc)
+            && run.machine.reads as u64 == path.reads
+            && run.machine.registers.iter().zip(&path.registers).all(within)
+    }
+
+    #[test]
+    fn plain_runs_agree_with_their_paths() {
+        let mut random = Random(88172645463325252);
+        for _ in 0..3000 {
+            let job = random.job();
+            let paths = listing(&job);
+            for inputs in all_inputs(&job.intervals) {
+                let has = |path: &&Path| (path.boxes[0].0..=path.boxes[0].1).contains(&inputs[0]);
+                let owners: Vec<&Path> = paths.iter().filter(has).collect();
+                assert_eq!(owners.len(), 1, "{:?} lies in one path's box", inputs);
+                assert!(agrees(&job, owners[0], &inputs), "{:?} {:?}", job, inputs);
+            }
+        }
+    }
+}
