@@ -1,0 +1,152 @@
+-- The decision at the corners is the ending order over the corners' view of a group, and what it says of the step that follows.
+-- Assumes nothing.
+use mathlib.Core.Path.{_≡_, refl, sym, ap, _∙_}
+use mathlib.Core.Bool.{Bool, cond, not, _||_}
+use mathlib.Core.List.{List, [], _∷_, _++_}
+use Prim.Native.Nat.{ℕ, _+_, _-_, _/_, _%_, _≤_}
+use native.Mathlib.Omega.{arith}
+use lib.Dec.{eqb, ltb}
+use lib.ListN.{length, getD}
+use Rattle.boxes.proofs.Lists.{by-test}
+use Rattle.riscu.specs.Machine.{State}
+use Rattle.riscu.specs.Decode.{decodeOf}
+use Rattle.riscu.specs.declared.At.{At}
+use Rattle.riscu.specs.declared.Operation.{Operation}
+use Rattle.riscu.specs.declared.Operation.the-variants.{Add, Sub, Mul, Divu, Remu, Sltu}
+use Rattle.riscu.specs.declared.Instruction.{Instruction}
+use Rattle.riscu.specs.declared.Instruction.the-variants.{Lui, Addi, Register, Ld, Sd, Beq, Jal, Jalr, Ecall}
+use Rattle.riscu.specs.declared.Decoded.{Decoded}
+use Rattle.riscu.specs.declared.Decoded.the-variants.{Row, NoRow}
+use Rattle.listing.specs.Group.{Job, Group, classOf}
+use Rattle.listing.specs.Ending.{Point, first, operationPoints, points, writes, needs, endAt, endBy}
+use Rattle.listing.specs.declared.End.the-variants.{TraceFull}
+use Rattle.corners.proofs.Corner.{lowState, highState, cornersOf}
+use Rattle.decide.specs.Corner.{machine, cornerView, verdict, sameClass, onward, unlessEnds, rowDecision, decision, endIn}
+use Rattle.decide.specs.declared.Limits.{Limits}
+use Rattle.decide.specs.declared.Used.{Used}
+use Rattle.decide.specs.declared.Decision.{Decision}
+use Rattle.corners.proofs.Needs.{needs-corners}
+
+pub writes-small : (left : Bool) (i : Instruction) → writes left i ≤ 2
+unfolding writes
+writes-small left (Lui rd imm) = by-test (eqb rd 0) (λ t. rw t (omega arith)) (λ t. rw t (omega arith))
+writes-small left (Addi rd rs1 imm) = by-test (eqb rd 0) (λ t. rw t (omega arith)) (λ t. rw t (omega arith))
+writes-small left (Register op rd rs1 rs2) = by-test (eqb rd 0) (λ t. rw t (omega arith)) (λ t. rw t (omega arith))
+writes-small left (Ld rd rs1 imm) = by-test (eqb rd 0) (λ t. rw t (omega arith)) (λ t. rw t (omega arith))
+writes-small left (Sd rs1 rs2 imm) = omega arith
+writes-small left (Beq rs1 rs2 imm) = omega arith
+writes-small left (Jal rd imm) = by-test (eqb rd 0) (λ t. rw t (omega arith)) (λ t. rw t (omega arith))
+writes-small left (Jalr rd rs1 imm) = by-test (eqb rd 0) (λ t. rw t (omega arith)) (λ t. rw t (omega arith))
+writes-small left Ecall = by-test left (λ t. rw t (omega arith)) (λ t. rw t (omega arith))
+
+-- the class hangs on the registers alone
+pub class-by-registers : (i : Instruction) (s : State) → classOf i (machine (s .registers)) ≡ classOf i s
+unfolding classOf
+class-by-registers (Lui rd imm) s = refl
+class-by-registers (Addi rd rs1 imm) s = refl
+class-by-registers (Register op rd rs1 rs2) s = refl
+class-by-registers (Ld rd rs1 imm) s = refl
+class-by-registers (Sd rs1 rs2 imm) s = refl
+class-by-registers (Beq rs1 rs2 imm) s = refl
+class-by-registers (Jal rd imm) s = refl
+class-by-registers (Jalr rd rs1 imm) s = refl
+class-by-registers Ecall s = refl
+
+-- a point after others: the others first
+added : (d : Decision) (q : Point) (ps : List Point) → endIn d ≡ first (q ∷ []) → endIn (unlessEnds d (verdict ps)) ≡ first (ps ++ (q ∷ []))
+unfolding endIn unlessEnds verdict first
+added d q [] e = e
+added d q (p ∷ ps) e = let ih = added d q ps e in by-test (p .applies) (λ t. rw t) (λ t. rw t ih)
+
+module _ (j : Job) (g : Group) where
+  abbrev low : List ℕ
+  low = lowState j g .registers
+
+  abbrev high : List ℕ
+  high = highState j g .registers
+
+  -- the corners' view of a group asks only the registers
+  operation-by-registers : (op : Operation) (a b : ℕ)
+      → operationPoints (cornerView low high) op a b ≡ operationPoints (cornersOf j g) op a b
+  unfolding operationPoints
+  operation-by-registers Add a b = refl
+  operation-by-registers Sub a b = refl
+  operation-by-registers Mul a b = refl
+  operation-by-registers Divu a b = refl
+  operation-by-registers Remu a b = refl
+  operation-by-registers Sltu a b = refl
+
+  pub points-by-registers : (i : Instruction) → points (cornerView low high) i ≡ points (cornersOf j g) i
+  unfolding points
+  points-by-registers (Lui rd imm) = refl
+  points-by-registers (Addi rd rs1 imm) = refl
+  points-by-registers (Register op rd rs1 rs2) = ap (λ (l : List Point). cond (eqb rd 0) [] l) (operation-by-registers op rs1 rs2)
+  points-by-registers (Ld rd rs1 imm) = refl
+  points-by-registers (Sd rs1 rs2 imm) = refl
+  points-by-registers (Beq rs1 rs2 imm) = refl
+  points-by-registers (Jal rd imm) = refl
+  points-by-registers (Jalr rd rs1 imm) = refl
+  points-by-registers Ecall = refl
+
+  abbrev left : Bool
+  left = ltb (lowState j g .reads) (length (g .box))
+
+  -- point 10, and nothing after it
+  onward-ends : (i : Instruction)
+      → endIn (onward (j .entries - g .used) left (sameClass i low high) i)
+      ≡ first (record { applies = ltb (j .entries - g .used) (needs g (cornersOf j g) i); end = TraceFull } ∷ [])
+  unfolding endIn onward first
+  onward-ends i =
+      let n : writes left i + cond (sameClass i low high) 0 1 ≡ needs g (cornersOf j g) i =
+      (λ k. writes left i + cond (eqb (class-by-registers i (lowState j g) k) (class-by-registers i (highState j g) k)) 0 1)
+      ∙ sym (needs-corners j g i) in
+      rw (← n)
+      (by-test (ltb (j .entries - g .used) (writes left i + cond (sameClass i low high) 0 1))
+      (λ t. rw t)
+      (λ t. rw t (by-test (sameClass i low high) (λ s. rw s) (λ s. rw s))))
+
+  row-ends : (d : Decoded) → endIn (rowDecision (j .entries - g .used) left low high d) ≡ endAt j g (cornersOf j g) d
+  unfolding endIn rowDecision endAt
+  row-ends NoRow = refl
+  row-ends (Row i) =
+      let q : Point = record { applies = ltb (j .entries - g .used) (needs g (cornersOf j g) i); end = TraceFull } in
+      added (onward (j .entries - g .used) left (sameClass i low high) i) q (points (cornerView low high) i) (onward-ends i)
+      ∙ ap (λ (l : List Point). first (l ++ (q ∷ []))) (points-by-registers i)
+
+  -- what the engine holds of the group
+  pub record Stands (m : Limits) (u : Used) (a : At) (l h : List ℕ) : Type 0 where
+    pub limit : m .steps ≡ j .limit
+    pub entries : m .entries ≡ j .entries
+    pub inputs : m .inputs ≡ length (g .box)
+    pub steps : u .steps ≡ g .steps
+    pub used : u .entries ≡ g .used
+    pub pc : a .pc ≡ lowState j g .pc
+    pub reads : a .reads ≡ lowState j g .reads
+    pub low-registers : l ≡ low
+    pub high-registers : h ≡ high
+
+  held-limits : Limits
+  held-limits = record { steps = j .limit; entries = j .entries; inputs = length (g .box) }
+
+  held-used : Used
+  held-used = record { steps = g .steps; entries = g .used }
+
+  held-at : At
+  held-at = record { pc = lowState j g .pc; reads = lowState j g .reads }
+
+  decided : endIn (decision (j .code) held-limits held-used held-at low high) ≡ endBy j g (cornersOf j g)
+  unfolding endIn decision endBy held-limits held-used held-at
+  decided =
+      by-test (eqb (g .steps) (j .limit)) (λ s. rw s) (λ s. rw s
+      (by-test (not (eqb (lowState j g .pc % 4) 0) || not (ltb (lowState j g .pc / 4) (length (j .code)))) (λ p. rw p) (λ p. rw p
+      (row-ends (decodeOf (getD (j .code) (lowState j g .pc / 4) 0))))))
+
+  pub decision-ends : (m : Limits) (u : Used) (a : At) (l h : List ℕ) → Stands m u a l h
+      → endIn (decision (j .code) m u a l h) ≡ endBy j g (cornersOf j g)
+  unfolding held-limits held-used held-at
+  decision-ends m u a l h s =
+      (λ k. endIn (decision (j .code)
+      (record { steps = s .limit k; entries = s .entries k; inputs = s .inputs k })
+      (record { steps = s .steps k; entries = s .used k })
+      (record { pc = s .pc k; reads = s .reads k })
+      (s .low-registers k) (s .high-registers k))) ∙ decided

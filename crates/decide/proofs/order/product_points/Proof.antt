@@ -1,0 +1,52 @@
+use Rattle.decide.proofs.Verdicts.{stops, goes, passes}
+use Rattle.listing.specs.Ending.{operationPoints}
+use mathlib.Core.Path.{sym, _∙_}
+use borrow.Author.Needs.{needs}
+use Rattle.decide.proofs.order.product_points.Statement.{statement}
+use Rattle.decide.proofs.order.product_points.Tie as tie
+
+both-open-requires : tie.Need-both-open-requires
+both-open-requires c κs = search needs
+
+returns : tie.Need-returns
+unfolding operationPoints
+returns c = stops _ (sym (c .before .both-open .ensures) ∙ c .if1 .taken)
+
+multiplier-requires : tie.Need-multiplier-requires
+multiplier-requires c κs = search needs
+
+returns-2 : tie.Need-returns-2
+unfolding operationPoints
+returns-2 c = goes _ _ (sym (c .before .before .before .both-open .ensures) ∙ c .before .before .if1 .left) (stops _ (sym (c .before .multiplier .ensures) ∙ c .if2 .taken))
+
+multiplier-requires-2 : tie.Need-multiplier-requires-2
+multiplier-requires-2 c κs = search needs
+
+returns-3 : tie.Need-returns-3
+unfolding operationPoints
+returns-3 c = goes _ _ (sym (c .before .before .before .before .before .both-open .ensures) ∙ c .before .before .before .before .if1 .left) (goes _ _ (sym (c .before .before .before .multiplier .ensures) ∙ c .before .before .if2 .left) (stops _ (sym (c .before .multiplier2 .ensures) ∙ c .if3 .taken)))
+
+quotients-requires : tie.Need-quotients-requires
+quotients-requires c κs = search needs
+
+returns-4 : tie.Need-returns-4
+unfolding operationPoints
+returns-4 c = goes _ _ (sym (c .before .before .before .before .before .before .before .both-open .ensures) ∙ c .before .before .before .before .before .before .if1 .left) (goes _ _ (sym (c .before .before .before .before .before .multiplier .ensures) ∙ c .before .before .before .before .if2 .left) (goes _ _ (sym (c .before .before .before .multiplier2 .ensures) ∙ c .before .before .if3 .left) (stops _ (sym (c .before .quotients .ensures) ∙ c .if4 .taken))))
+
+returns-5 : tie.Need-returns-5
+unfolding operationPoints
+returns-5 c = goes _ _ (sym (c .before .before .before .before .before .before .before .both-open .ensures) ∙ c .before .before .before .before .before .before .if1 .left) (goes _ _ (sym (c .before .before .before .before .before .multiplier .ensures) ∙ c .before .before .before .before .if2 .left) (goes _ _ (sym (c .before .before .before .multiplier2 .ensures) ∙ c .before .before .if3 .left) (goes _ _ (sym (c .before .quotients .ensures) ∙ c .if4 .left) passes)))
+
+pub product-points-spec : {M : Type 1} → statement M
+product-points-spec =
+    tie.close
+    (tie.spec
+    both-open-requires
+    returns
+    multiplier-requires
+    returns-2
+    multiplier-requires-2
+    returns-3
+    quotients-requires
+    returns-4
+    returns-5)

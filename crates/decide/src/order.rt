@@ -1,0 +1,288 @@
+// The ending order at the two corners: points 4 to 9, from the registers at the lowest inputs and at the highest.
+use crate::Verdict;
+use crate::classes::bad_address;
+use crate::classes::is_power;
+use crate::classes::least;
+use crate::classes::sort_of;
+use listing::End;
+use listing::Reason;
+use riscu::Instruction;
+use riscu::Operation;
+use riscu::plain::Registers;
+use riscu::plain::offset;
+use riscu::plain::register;
+ghost use mathlib.Core.Path.{_≡_};
+ghost use Prim.Native.Nat.{_+_, min, max};
+ghost use lib.Dec.{eqb, ltb};
+ghost use lib.IntN.{pos};
+ghost use Rattle.riscu.specs.declared.Operation.the-variants.{Add, Mul, Divu, Remu};
+ghost use Rattle.riscu.specs.declared.Instruction.the-variants.{Register, Ld, Jalr, Ecall};
+ghost use Rattle.listing.specs.Ending.{operationPoints, points};
+ghost use Rattle.decide.specs.Corner.{cornerView, openAt, valueAt, quotientAt, verdict};
+ghost use Rattle.decide.specs.Corner.{bothOpen, oddMultiplier, oddDivisor, farApart, badAccess, callOpen, badCall, badRead};
+
+// Whether a register differs at the corners.
+pub fn open_at(low: &Registers, high: &Registers, r: usize) -> bool
+    ensures { λ b. ⌜ b ≡ openAt (now (low .entry)) (now (high .entry)) r ⌝ }
+{
+    let a = register(low, r);
+    let b = register(high, r);
+    a != b
+}
+
+// The least that a register has.
+fn value_at(low: &Registers, high: &Registers, r: usize) -> u64
+    ensures { λ v. ⌜ v ≡ valueAt (now (low .entry)) (now (high .entry)) r ⌝ }
+{
+    let a = register(low, r);
+    let b = register(high, r);
+    least(a, b)
+}
+
+fn both_open(low: &Registers, high: &Registers, a: usize, b: usize) -> bool
+    ensures { λ r. ⌜ r ≡ bothOpen (now (low .entry)) (now (high .entry)) a b ⌝ }
+{
+    let x = open_at(low, high, a);
+    let y = open_at(low, high, b);
+    x & y
+}
+
+// a is neither 0 nor a power of two, and b is open.
+fn multiplier(low: &Registers, high: &Registers, a: usize, b: usize) -> bool
+    ensures { λ r. ⌜ r ≡ oddMultiplier (now (low .entry)) (now (high .entry)) a b ⌝ }
+{
+    let x = open_at(low, high, b);
+    if x {
+        let v = value_at(low, high, a);
+        let p = is_power(v);
+        !((v == 0) | p)
+    } else {
+        false
+    }
+}
+
+// b is no power of two, and a is open.
+fn odd_divisor(low: &Registers, high: &Registers, a: usize, b: usize) -> bool
+    ensures { λ r. ⌜ r ≡ oddDivisor (now (low .entry)) (now (high .entry)) a b ⌝ }
+{
+    let x = open_at(low, high, a);
+    if x {
+        let v = value_at(low, high, b);
+        let p = is_power(v);
+        !p
+    } else {
+        false
+    }
+}
+
+fn zero_divisor(low: &Registers, high: &Registers, b: usize) -> bool
+    ensures { λ r. ⌜ r ≡ eqb (valueAt (now (low .entry)) (now (high .entry)) b) 0 ⌝ }
+{
+    let v = value_at(low, high, b);
+    v == 0
+}
+
+// More than 1 apart.
+fn apart(a: u64, b: u64) -> bool
+    ensures { λ r. ⌜ r ≡ ltb (min a b + 1) (max a b) ⌝ }
+{
+    if a < b { 1 < b - a } else { 1 < a - b }
+}
+
+fn quotient_at(op: Operation, registers: &Registers, a: usize, b: usize) -> u64
+    ensures { λ r. ⌜ r ≡ quotientAt op (now (registers .entry)) a b ⌝ }
+{
+    let x = register(registers, a);
+    let y = register(registers, b);
+    sort_of(op, x, y)
+}
+
+fn quotients(op: Operation, low: &Registers, high: &Registers, a: usize, b: usize) -> bool
+    ensures { λ r. ⌜ r ≡ farApart (now (low .entry)) (now (high .entry)) op a b ⌝ }
+{
+    let x = quotient_at(op, low, a, b);
+    let y = quotient_at(op, high, a, b);
+    apart(x, y)
+}
+
+fn open_points(low: &Registers, high: &Registers, a: usize, b: usize) -> Verdict
+    ensures { λ r. ⌜ r ≡ verdict (operationPoints (cornerView (now (low .entry)) (now (high .entry))) Add a b) ⌝ }
+{
+    if both_open(low, high, a, b) {
+        return Verdict::Ends(End::NotFollowed(Reason::BothOpen));
+    }
+    Verdict::Passes
+}
+
+fn product_points(low: &Registers, high: &Registers, a: usize, b: usize) -> Verdict
+    ensures { λ r. ⌜ r ≡ verdict (operationPoints (cornerView (now (low .entry)) (now (high .entry))) Mul a b) ⌝ }
+{
+    if both_open(low, high, a, b) {
+        return Verdict::Ends(End::NotFollowed(Reason::BothOpen));
+    }
+    if multiplier(low, high, a, b) {
+        return Verdict::Ends(End::NotFollowed(Reason::Multiplier));
+    }
+    if multiplier(low, high, b, a) {
+        return Verdict::Ends(End::NotFollowed(Reason::Multiplier));
+    }
+    if quotients(Operation::Mul, low, high, a, b) {
+        return Verdict::Ends(End::NotFollowed(Reason::Quotients));
+    }
+    Verdict::Passes
+}
+
+fn quotient_points(low: &Registers, high: &Registers, a: usize, b: usize) -> Verdict
+    ensures { λ r. ⌜ r ≡ verdict (operationPoints (cornerView (now (low .entry)) (now (high .entry))) Divu a b) ⌝ }
+{
+    if open_at(low, high, b) {
+        return Verdict::Ends(End::NotFollowed(Reason::DivisorOpen));
+    }
+    if zero_divisor(low, high, b) {
+        return Verdict::Ends(End::DivisionByZero);
+    }
+    if odd_divisor(low, high, a, b) {
+        return Verdict::Ends(End::NotFollowed(Reason::Divisor));
+    }
+    Verdict::Passes
+}
+
+fn remainder_points(low: &Registers, high: &Registers, a: usize, b: usize) -> Verdict
+    ensures { λ r. ⌜ r ≡ verdict (operationPoints (cornerView (now (low .entry)) (now (high .entry))) Remu a b) ⌝ }
+{
+    if open_at(low, high, b) {
+        return Verdict::Ends(End::NotFollowed(Reason::DivisorOpen));
+    }
+    if zero_divisor(low, high, b) {
+        return Verdict::Ends(End::DivisionByZero);
+    }
+    if quotients(Operation::Remu, low, high, a, b) {
+        return Verdict::Ends(End::NotFollowed(Reason::Quotients));
+    }
+    Verdict::Passes
+}
+
+// Points 7 and 8 of an operation on two registers, not into register 0.
+fn operation_points(op: Operation, low: &Registers, high: &Registers, a: usize, b: usize) -> Verdict
+    ensures { λ r. ⌜ r ≡ verdict (operationPoints (cornerView (now (low .entry)) (now (high .entry))) op a b) ⌝ }
+{
+    match op {
+        Operation::Add => open_points(low, high, a, b),
+        Operation::Sub => open_points(low, high, a, b),
+        Operation::Mul => product_points(low, high, a, b),
+        Operation::Divu => quotient_points(low, high, a, b),
+        Operation::Remu => remainder_points(low, high, a, b),
+        Operation::Sltu => open_points(low, high, a, b),
+    }
+}
+
+fn register_points(
+    op: Operation,
+    rd: usize,
+    low: &Registers,
+    high: &Registers,
+    a: usize,
+    b: usize,
+) -> Verdict
+    ensures { λ r. ⌜ r ≡ verdict (points (cornerView (now (low .entry)) (now (high .entry))) (Register op rd a b)) ⌝ }
+{
+    if rd == 0 {
+        Verdict::Passes
+    } else {
+        operation_points(op, low, high, a, b)
+    }
+}
+
+fn bad_access(low: &Registers, high: &Registers, r: usize, imm: i64) -> bool
+    ensures { λ b. ⌜ b ≡ badAccess (now (low .entry)) (now (high .entry)) r imm ⌝ }
+{
+    let x = offset(low, r, imm);
+    let y = offset(high, r, imm);
+    let a = least(x, y);
+    bad_address(a)
+}
+
+fn access_points(low: &Registers, high: &Registers, r: usize, imm: i64) -> Verdict
+    ensures { λ v. ⌜ v ≡ verdict (points (cornerView (now (low .entry)) (now (high .entry))) (Ld 0 r imm)) ⌝ }
+{
+    if open_at(low, high, r) {
+        return Verdict::Ends(End::NotFollowed(Reason::BaseOpen));
+    }
+    if bad_access(low, high, r, imm) {
+        return Verdict::Ends(End::BadAddress);
+    }
+    Verdict::Passes
+}
+
+fn base_points(low: &Registers, high: &Registers, r: usize) -> Verdict
+    ensures { λ v. ⌜ v ≡ verdict (points (cornerView (now (low .entry)) (now (high .entry))) (Jalr 0 r (pos 0))) ⌝ }
+{
+    if open_at(low, high, r) {
+        return Verdict::Ends(End::NotFollowed(Reason::BaseOpen));
+    }
+    Verdict::Passes
+}
+
+fn call_open(low: &Registers, high: &Registers, read: bool) -> bool
+    ensures { λ b. ⌜ b ≡ callOpen (now (low .entry)) (now (high .entry)) read ⌝ }
+{
+    let a = open_at(low, high, 17);
+    let b = open_at(low, high, 10);
+    let c = open_at(low, high, 11);
+    let d = open_at(low, high, 12);
+    a | (read & (b | c | d))
+}
+
+fn bad_call(low: &Registers, high: &Registers, read: bool, exit: bool) -> bool
+    ensures { λ b. ⌜ b ≡ badCall (now (low .entry)) (now (high .entry)) read exit ⌝ }
+{
+    let x = value_at(low, high, 10);
+    let y = value_at(low, high, 12);
+    !(read | exit) | (read & !((x == 0) & (y == 8)))
+}
+
+fn bad_read(low: &Registers, high: &Registers, read: bool) -> bool
+    ensures { λ b. ⌜ b ≡ badRead (now (low .entry)) (now (high .entry)) read ⌝ }
+{
+    let a = value_at(low, high, 11);
+    let b = bad_address(a);
+    read & b
+}
+
+fn call_points(low: &Registers, high: &Registers) -> Verdict
+    ensures { λ v. ⌜ v ≡ verdict (points (cornerView (now (low .entry)) (now (high .entry))) Ecall) ⌝ }
+{
+    let number = value_at(low, high, 17);
+    let read = number == 63;
+    let exit = number == 93;
+    if call_open(low, high, read) {
+        return Verdict::Ends(End::NotFollowed(Reason::CallOpen));
+    }
+    if bad_call(low, high, read, exit) {
+        return Verdict::Ends(End::BadCall);
+    }
+    if bad_read(low, high, read) {
+        return Verdict::Ends(End::BadAddress);
+    }
+    if exit {
+        return Verdict::Ends(End::Exit);
+    }
+    Verdict::Passes
+}
+
+// Points 4 to 9.
+pub fn points(i: Instruction, low: &Registers, high: &Registers) -> Verdict
+    ensures { λ v. ⌜ v ≡ verdict (points (cornerView (now (low .entry)) (now (high .entry))) i) ⌝ }
+{
+    match i {
+        Instruction::Lui { rd, imm } => Verdict::Passes,
+        Instruction::Addi { rd, rs1, imm } => Verdict::Passes,
+        Instruction::Register { op, rd, rs1, rs2 } => register_points(op, rd, low, high, rs1, rs2),
+        Instruction::Ld { rd, rs1, imm } => access_points(low, high, rs1, imm),
+        Instruction::Sd { rs1, rs2, imm } => access_points(low, high, rs1, imm),
+        Instruction::Beq { rs1, rs2, imm } => open_points(low, high, rs1, rs2),
+        Instruction::Jal { rd, imm } => Verdict::Passes,
+        Instruction::Jalr { rd, rs1, imm } => base_points(low, high, rs1),
+        Instruction::Ecall => call_points(low, high),
+    }
+}

@@ -1,0 +1,161 @@
+-- A call that passed the questions at the door: what its exploration begins with, and that what it leaves is what document 01 says.
+-- Assumes nothing.
+use mathlib.Core.Path.{_≡_, refl, sym, ap, _∙_}
+use mathlib.Core.Bool.{true}
+use mathlib.Core.List.{List, [], _∷_}
+use mathlib.Core.Option.{Option, none, some}
+use Prim.Native.Nat.{ℕ, zero, suc, _+_, _-_, _*_, _/_, _%_, _^_, _≤_, _<_}
+use native.Mathlib.Nat.{zero-add, div-mul-le-self}
+use native.Mathlib.Omega.{arith}
+use lib.Dec.{leb, eqb}
+use lib.ListN.{length, getD, take, replicate, length-take, length-map}
+use lib.Seq.{ext-getD, getD-take}
+use borrow.Author.Tests.{leb-true, ltb-true, eqb-true}
+use Rattle.boxes.specs.Boxes.{_⋯_, from}
+use Rattle.boxes.specs.Cuts.{boxIn}
+use Rattle.boxes.proofs.Lists.{length-from, from-at}
+use Rattle.boxes.proofs.TwoLists.{length-in, at-in}
+use Rattle.blocks.specs.Record.{room, pathBytes}
+use Rattle.calls.specs.Call.{Call, callOf, Below, boxOf, asks, door, jobOf, replyBy, replyTo, tableBy, left, called}
+use Rattle.calls.specs.declared.Refusal.{Refusal}
+use Rattle.calls.specs.declared.Refusal.the-variants.{Inputs, Limit, Memory, Report, First}
+use Rattle.calls.specs.declared.Answer.the-variants.{Refused, Page}
+use Rattle.calls.specs.Door.{doorAs}
+use Rattle.calls.specs.declared.Door.the-variants.{Open, Closed}
+use Rattle.demands.proofs.Accepted.{both, accepted-yes, accepted-sound}
+use Rattle.decide.specs.declared.Limits.{Limits}
+use Rattle.explorer.specs.Held.{jobIn}
+use Rattle.explorer.specs.Finished.{endsOf, Begins, Finished}
+use Rattle.explorer.specs.declared.Standing.{Standing}
+use Rattle.explorer.specs.declared.Window.{Window}
+
+-- the box of whole pairs, by its lows and highs
+
+pairs : (v : List ℕ) → length v % 2 ≡ 0 → 2 * length (boxOf v) ≡ length v
+unfolding boxOf
+pairs [] e = refl
+pairs (l ∷ []) e = absurd (omega arith)
+pairs (l ∷ (h ∷ v)) e = omega (arith, pairs v (omega arith))
+
+pair-at : (v : List ℕ) (i : ℕ) → i < length (boxOf v) → getD (boxOf v) i (0 ⋯ 0) ≡ getD v (2 * i + 0) 0 ⋯ getD v (2 * i + 1) 0
+unfolding boxOf
+pair-at [] i h = absurd (omega arith)
+pair-at (l ∷ []) i h = absurd (omega arith)
+pair-at (l ∷ (x ∷ v)) zero h = refl
+pair-at (l ∷ (x ∷ v)) (suc i) h =
+    let a : 2 * suc i + 0 ≡ suc (suc (2 * i + 0)) = omega arith in
+    let b : 2 * suc i + 1 ≡ suc (suc (2 * i + 1)) = omega arith in
+    rw (a, b) (pair-at v i (omega arith))
+
+pub ends-length : (side : ℕ) (v : List ℕ) → length (endsOf side v) ≡ room
+ends-length side v = length-map (from 0 room) _ ∙ length-from room 0
+
+ends-at : (side : ℕ) (v : List ℕ) (n i : ℕ) → i < n → n ≤ room → getD (take n (endsOf side v)) i 0 ≡ getD v (2 * i + side) 0
+ends-at side v n i h l =
+    getD-take n (endsOf side v) i 0 h ∙ from-at (λ k. getD v (2 * k + side) 0) 0 room 0 i (omega arith) ∙ rw zero-add
+
+module _ (v : List ℕ) (even : length v % 2 ≡ 0) (few : length v ≤ 2 * room) where
+  abbrev n : ℕ
+  n = length v / 2
+
+  taken : (side : ℕ) → length (take n (endsOf side v)) ≡ n
+  taken side = rw (length-take, ends-length) (omega arith)
+
+  pub box-is : boxIn (take n (endsOf 0 v)) (take n (endsOf 1 v)) ≡ boxOf v
+  box-is =
+      let ls = take n (endsOf 0 v) in
+      let hs = take n (endsOf 1 v) in
+      let e = taken 0 ∙ sym (taken 1) in
+      let k = length-in ls hs e ∙ taken 0 in
+      let p = pairs v even in
+      ext-getD (0 ⋯ 0) (boxIn ls hs) (boxOf v) (omega arith)
+      (λ i h. at-in ls hs e i ∙ (λ q. ends-at 0 v n i (omega arith) (omega arith) q ⋯ ends-at 1 v n i (omega arith) (omega arith) q)
+      ∙ sym (pair-at v i (omega arith)))
+
+module _ (code memory intervals table report : List ℕ) (limit first : ℕ)
+    (d : door memory (length table) (callOf code intervals limit report first) ≡ none) where
+  abbrev call : Call
+  call = callOf code intervals limit report first
+
+  abbrev limits : Limits
+  limits = record { steps = limit; entries = length table / 8; inputs = length intervals / 2 }
+
+  abbrev window : Window
+  window = record { first = first; end = first + length report / pathBytes }
+
+  yes : (q : Refusal) → asks memory (length table) call q ≡ true
+  yes = accepted-yes memory (length table) call d
+
+  pub memory-count : length memory ≡ 512
+  unfolding asks
+  memory-count = eqb-true (length memory) 512 (yes Memory)
+
+  evens : length intervals % 2 ≡ 0
+  unfolding asks
+  evens = eqb-true (length intervals % 2) 0 (both (eqb (length intervals % 2) 0) _ (yes Inputs) .0)
+
+  inputs-few : length intervals ≤ 2 * room
+  unfolding asks
+  inputs-few = leb-true (length intervals) (2 * room) (both (eqb (length intervals % 2) 0) _ (yes Inputs) .1)
+
+  pub some-inputs : length intervals / 2 ≤ room
+  some-inputs = omega (arith, inputs-few)
+
+  -- the first of the ends are those of the inputs
+  module _ (side : ℕ) (l : List ℕ) (e : l ≡ endsOf side intervals) where
+    pub prefix-fits : length intervals / 2 ≤ length l
+    prefix-fits = omega (arith, some-inputs, ap (λ (v : List ℕ). length v) e, ends-length side intervals)
+
+    pub prefix-length : length intervals / 2 ≡ length (take (length intervals / 2) l)
+    prefix-length = rw e (sym (taken intervals evens inputs-few side))
+
+  limit-small : limit ≤ 65536
+  unfolding asks
+  limit-small = leb-true limit 65536 (both (leb 1 limit) _ (yes Limit) .1)
+
+  pages-some : 1 ≤ length report / pathBytes
+  unfolding asks
+  pages-some =
+      let (a, b) = both (eqb (length report % pathBytes) 0) _ (yes Report) in
+      omega (arith, eqb-true (length report % pathBytes) 0 a, leb-true 1 (length report) b)
+
+  pub end-small : length report < 2 ^ 64 → first + length report / pathBytes < 2 ^ 64
+  unfolding asks
+  end-small l = omega (arith, ltb-true first (2 ^ 32) (yes First))
+
+  pub call-begins : Below (2 ^ 64) memory → Below (2 ^ 64) intervals → length report < 2 ^ 64
+      → Begins (jobIn code memory intervals limits) limits window (take (length intervals / 2) (endsOf 0 intervals))
+      (take (length intervals / 2) (endsOf 1 intervals)) table report
+  unfolding jobOf
+  call-begins m i r = record {
+    sound = accepted-sound memory (length table) call d m i;
+    box = box-is intervals evens inputs-few;
+    paired = taken intervals evens inputs-few 0 ∙ sym (taken intervals evens inputs-few 1);
+    inputs = taken intervals evens inputs-few 0;
+    few = some-inputs;
+    room = omega (arith, div-mul-le-self (length table) 8);
+    some = pages-some;
+    end = refl;
+    end-fits = end-small r;
+    steps-fit = omega (arith, limit-small);
+  }
+
+  pub call-leaves : (written : List ℕ) (s : Standing) → Finished (jobIn code memory intervals limits) call written s
+      → left (Page (s .paths - first) (s .more)) written (replicate (length table) 0) memory ≡ called memory table call
+  unfolding called replyTo replyBy tableBy jobOf
+  call-leaves written s f = rw (d, f .count, f .more, f .bytes)
+
+-- the door, as the code asks it
+
+pub door-open : (o : Option Refusal) → Open ≡ doorAs o → o ≡ none
+door-open none e = refl
+door-open (some r) e = let z : _≡_ {A = ℕ} 0 1 = cc in absurd (omega arith)
+
+pub door-closed : {r : Refusal} (o : Option Refusal) → Closed r ≡ doorAs o → o ≡ some r
+door-closed none e = let z : _≡_ {A = ℕ} 0 1 = cc in absurd (omega arith)
+door-closed (some q) e = cc
+
+pub refused-leaves : {r : Refusal} (memory table : List ℕ) (c : Call) → door memory (length table) c ≡ some r
+    → left (Refused r) (c .report) table memory ≡ called memory table c
+unfolding called replyTo replyBy tableBy
+refused-leaves memory table c e = rw e

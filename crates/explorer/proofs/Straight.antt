@@ -1,0 +1,85 @@
+-- A turn that goes straight on.
+-- Assumes nothing.
+use mathlib.Core.Path.{_≡_, refl, sym, _∙_}
+use mathlib.Core.Bool.{true}
+use mathlib.Core.List.{List}
+use Prim.Native.Nat.{ℕ, _+_, _*_, _≤_, _<_}
+use native.Mathlib.Omega.{arith}
+use lib.Dec.{ltb}
+use lib.ListN.{length}
+use Rattle.boxes.specs.Boxes.{Box, lows, highs}
+use Rattle.riscu.specs.Machine.{fetch}
+use Rattle.riscu.specs.declared.Instruction.{Instruction}
+use Rattle.riscu.specs.declared.Decoded.the-variants.{Row}
+use Rattle.listing.specs.Group.{Job}
+use Rattle.listing.specs.Ending.{writes}
+use Rattle.listing.specs.Listing.{Path, later}
+use Rattle.corners.proofs.Corner.{Good}
+use Rattle.corners.proofs.Enough.{weight}
+use Rattle.forks.specs.Stack.{written}
+use Rattle.forks.specs.Turn.{running, Turn, straight, stateOf}
+use Rattle.boxes.specs.Cuts.{boxIn}
+use Rattle.boxes.proofs.TwoLists.{lows-in, highs-in}
+use Rattle.forks.proofs.Positions.{reached-represents, within-limit}
+use Rattle.decide.specs.Corner.{decision}
+use Rattle.lockstep.specs.Together.{advanced}
+use Rattle.lockstep.proofs.LockStep.{cornersAfter, advanced-after}
+use Rattle.decide.proofs.Says.{says-steps}
+use Rattle.decide.specs.declared.Limits.{Limits}
+use Rattle.decide.specs.declared.Decision.the-variants.{Steps}
+use Rattle.lockstep.specs.declared.Corners.{Corners}
+use Rattle.explorer.specs.Held.{Lists, groupOf, forksOf, usedOf, cornersIn, Held, moved, stepped, groupsLeft, work}
+use Rattle.explorer.specs.declared.Standing.{Standing}
+use Rattle.explorer.proofs.Stands.{stands, turned, lighter, work-running}
+
+-- one instruction further at both corners, where the group one step later is good
+pub corners-next : (j : Job) (b : Box) (n u : ℕ) (i : Instruction) → Good j (record { box = b; steps = n + 1; used = u })
+    → fetch (j .code) (cornersAfter j b n .low .pc) ≡ Row i → advanced (lows b) (highs b) i (cornersAfter j b n) ≡ cornersAfter j b (n + 1)
+corners-next j b n u i g f = advanced-after j b (g .sound) n f (g .smooth n (omega arith))
+
+module _ {j : Job} {m : Limits} {ps : List Path} {x : Lists} {s : Standing} (h : Held j m ps x s) (e : s .running ≡ true) where
+  -- the entries that a step takes for its writes
+  pub written-is : (i : Instruction) → writes (ltb (s .at .low .reads) (m .inputs)) i ≡ written j (groupOf x s) i
+  written-is i = let w = stands h e in rw (w .reads, w .inputs)
+
+  module _ (i : Instruction) (d : decision (j .code) m (usedOf s) (s .at .low) (x .low) (x .high) ≡ Steps i) where
+    turn : Turn j (running ps (groupOf x s) (forksOf x s))
+        (running ps (later (groupOf x s) (written j (groupOf x s) i) (boxIn (x .lows) (x .highs))) (forksOf x s))
+    turn = let k = says-steps (stands h e) d in straight (k .0) (k .1) (k .2)
+
+    pub straight-limits : (s .steps + 1 ≤ m .steps) × (8 * s .used ≤ length (x .table))
+    straight-limits =
+        let r = reached-represents (h .sound) (turned h e turn) .1 in
+        (omega (arith, within-limit j (h .sound) r, h .limit), omega (arith, r .room, h .room))
+
+    pub held-straight : (l c r o t w : List ℕ) (a : Corners)
+        → cornersIn (moved x l c r o t w) a ≡ advanced (x .lows) (x .highs) i (cornersIn x (s .at))
+        → Held j m ps (moved x l c r o t w) (stepped m s i a)
+    held-straight l c r o t w a q =
+        let g = reached-represents (h .sound) (turned h e turn) .1 .good in
+        let f = says-steps (stands h e) d .1 in
+        let b = boxIn (x .lows) (x .highs) in
+        record {
+          sound = h .sound;
+          reached = rw (written-is i) (turned h e turn);
+          corners = λ _. q
+              ∙ (λ k. advanced (sym (lows-in (x .lows) (x .highs) (h .paired)) k) (sym (highs-in (x .lows) (x .highs) (h .paired)) k) i
+              (h .corners e k))
+              ∙ corners-next j b (s .steps) _ i g f;
+          limit = h .limit;
+          entries = h .entries;
+          paired = h .paired;
+          inputs = h .inputs;
+          room = h .room;
+          count = h .count;
+        }
+
+    pub work-straight : (l c r o t w : List ℕ) (a : Corners) → s .going ≡ true → work j (moved x l c r o t w) (stepped m s i a) < work j x s
+    unfolding stateOf
+    work-straight l c r o t w a g =
+        let y = moved x l c r o t w in
+        let z = stepped m s i a in
+        let v : weight j (groupsLeft j true (groupOf y z) (forksOf y z))
+        ≡ weight j (stateOf j (running ps (later (groupOf x s) (written j (groupOf x s) i) (boxIn (x .lows) (x .highs))) (forksOf x s)) .waiting) =
+        rw (written-is i) in
+        omega (arith, lighter h e turn, v, work-running j x s g e, work-running j y z refl refl)

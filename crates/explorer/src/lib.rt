@@ -1,0 +1,29 @@
+// The exploration of a lent job: the questions at the door, the turns at the two corners of the current box, and the call itself.
+// Each turn is one move of document 01's plain listing, or takes up the next rest of the latest fork.
+// What a call leaves is one equation with the definition of a call: its answer, every byte of the report, the table and memory.
+pub mod border;
+pub mod branching;
+pub mod exploring;
+pub mod pages;
+pub mod turns;
+
+use lockstep::Corners;
+
+// Where an exploration stands: at a group, or between two groups; the numbers of the group, the forks in the table, the paths ended,
+// and where the machines at the corners are. It stops with the answer whether a further path exists.
+pub struct Standing {
+    pub going: bool,
+    pub running: bool,
+    pub more: bool,
+    pub steps: usize,
+    pub used: usize,
+    pub forks: usize,
+    pub paths: u64,
+    pub at: Corners,
+}
+
+// The numbers of the paths that a page has room for: from the first wanted to below the end.
+pub struct Window {
+    pub first: u64,
+    pub end: u64,
+}

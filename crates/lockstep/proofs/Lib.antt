@@ -1,0 +1,2 @@
+-- Lock step against the runs at the two corners.
+pub mod LockStep

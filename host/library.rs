@@ -1,0 +1,55 @@
+//! The proved library as a host lends to it: a slice passes as a pointer and its length in elements.
+
+/// `refused` is the number of the question that was answered by no, 0 for an accepted call.
+#[repr(C)]
+#[derive(Clone, Copy, Debug, PartialEq, Eq)]
+pub struct Reply {
+    pub refused: u64,
+    pub count: u64,
+    pub more: u64,
+}
+
+extern "C" {
+    fn mirokefa_explore(
+        code: *const u32,
+        code_words: usize,
+        memory: *const u64,
+        memory_words: usize,
+        intervals: *const u64,
+        interval_words: usize,
+        limit: u64,
+        table: *mut u64,
+        table_words: usize,
+        report: *mut u8,
+        report_bytes: usize,
+        first: u64,
+    ) -> Reply;
+}
+
+pub fn explore(
+    code: &[u32],
+    memory: &[u64],
+    intervals: &[u64],
+    limit: u64,
+    table: &mut [u64],
+    report: &mut [u8],
+    first: u64,
+) -> Reply {
+    // SAFETY: each pointer comes with the length of its own slice, and they do not overlap
+    unsafe {
+        mirokefa_explore(
+            code.as_ptr(),
+            code.len(),
+            memory.as_ptr(),
+            memory.len(),
+            intervals.as_ptr(),
+            intervals.len(),
+            limit,
+            table.as_mut_ptr(),
+            table.len(),
+            report.as_mut_ptr(),
+            report.len(),
+            first,
+        )
+    }
+}

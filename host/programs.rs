@@ -1,0 +1,344 @@
+//! Random programs and boxes, made so that forks, loops, memory and every end occur often.
+
+use crate::assembler::*;
+use crate::oracle::{decode, Instruction, Interval, Operation, MEMORY_WORDS};
+
+/// Numbers by splitmix64: the same in every run from the same seed.
+pub struct Random(pub u64);
+
+impl Random {
+    pub fn next(&mut self) -> u64 {
+        self.0 = self.0.wrapping_add(0x9E3779B97F4A7C15);
+        let mut z = self.0;
+        z = (z ^ (z >> 30)).wrapping_mul(0xBF58476D1CE4E5B9);
+        z = (z ^ (z >> 27)).wrapping_mul(0x94D049BB133111EB);
+        z ^ (z >> 31)
+    }
+
+    pub fn below(&mut self, bound: usize) -> usize {
+        (self.next() >> 11) as usize % bound
+    }
+
+    pub fn pick<T: Copy>(&mut self, from: &[T]) -> T {
+        from[self.below(from.len())]
+    }
+
+    /// True once in `turns` on average.
+    pub fn once_in(&mut self, turns: usize) -> bool {
+        self.below(turns) == 0
+    }
+
+    /// Both ends included.
+    pub fn between(&mut self, (low, high): Interval) -> u64 {
+        match (high - low).checked_add(1) {
+            Some(width) => low + self.next() % width,
+            None => self.next(),
+        }
+    }
+}
+
+// ---------------------------------------------------------------------------------------------
+// Boxes.
+
+pub fn input_count(random: &mut Random) -> usize {
+    random.pick(&[0, 1, 1, 1, 1, 1, 1, 1, 2, 2, 2, 2, 2, 2, 3, 3, 3, 4, 5, 8])
+}
+
+/// A box of at most `budget` choices, for the brute force.
+pub fn small_box(random: &mut Random, inputs: usize, mut budget: usize) -> Vec<Interval> {
+    let mut intervals = Vec::new();
+    for _ in 0..inputs {
+        let width = 1 + random.below(budget.min(60));
+        budget /= width;
+        let anchor = random.pick(&[0, 0, 3, 100, 1 << 32, (1 << 63) - 4, u64::MAX - 70]);
+        let low = anchor + random.below(10) as u64;
+        intervals.push((low, low + width as u64 - 1));
+    }
+    intervals
+}
+
+pub fn large_box(random: &mut Random, inputs: usize) -> Vec<Interval> {
+    (0..inputs).map(|_| large_interval(random)).collect()
+}
+
+fn large_interval(random: &mut Random) -> Interval {
+    let (a, b) = (random.next(), random.next());
+    let short = random.next() >> random.below(64);
+    match random.below(8) {
+        0 | 1 => (0, u64::MAX),
+        2 => (0, 1 << 63),
+        3 => (short, short),
+        4 => (0, short),
+        5 => (u64::MAX - short, u64::MAX),
+        6 => (a.min(b), a.max(b)),
+        _ => (0, 255),
+    }
+}
+
+// ---------------------------------------------------------------------------------------------
+// Memory: random words, and constants near the places where the box can be cut.
+
+/// The constants' registers, loaded from memory words 32 and on.
+const NEAR: u32 = 18;
+const WIDE: u32 = 19;
+const SMALL_POWER: u32 = 20;
+const POWER: u32 = 21;
+const WILD: u32 = 22;
+const CONSTANTS: [u32; 5] = [NEAR, WIDE, SMALL_POWER, POWER, WILD];
+const FIRST_CONSTANT: usize = 32;
+pub const CONSTANT_WORDS: std::ops::Range<usize> = FIRST_CONSTANT..FIRST_CONSTANT + CONSTANTS.len();
+
+pub fn memory_for(random: &mut Random, intervals: &[Interval]) -> Vec<u64> {
+    let mut memory: Vec<u64> = (0..MEMORY_WORDS).map(|_| random.next()).collect();
+    let (near, wide) = (near_value(random, intervals), near_value(random, intervals));
+    let (small, power) = (1 << random.below(4), 1 << random.below(64));
+    let wild = random.pick(&[0, 1, 3, 8, 63, 93, 1 << 63, u64::MAX]);
+    memory[CONSTANT_WORDS].copy_from_slice(&[near, wide, small, power, wild]);
+    memory
+}
+
+fn near_value(random: &mut Random, intervals: &[Interval]) -> u64 {
+    if intervals.is_empty() {
+        return random.below(300) as u64;
+    }
+    let (low, high) = random.pick(intervals);
+    let inside = random.between((low, high));
+    let values = [low, high, inside, inside, inside, high - low, inside.wrapping_neg()];
+    random.pick(&values).wrapping_add(random.pick(&[0, 0, 1, u64::MAX]))
+}
+
+// ---------------------------------------------------------------------------------------------
+// Programs.
+
+/// Registers for values that hang on inputs; 8 counts a loop's turns and 9 is a comparison's.
+const VALUES: [u32; 8] = [5, 6, 7, 28, 29, 30, 31, 10];
+const COUNTER: u32 = 8;
+const TEST: u32 = 9;
+
+struct Writer<'a> {
+    random: &'a mut Random,
+    code: Vec<u32>,
+    reads: u32,
+}
+
+/// A program that loads the constants, reads inputs, does some work and, as a rule, exits.
+pub fn program(random: &mut Random, inputs: usize) -> Vec<u32> {
+    let mut writer = Writer { random, code: Vec::new(), reads: 0 };
+    for (place, register) in CONSTANTS.into_iter().enumerate() {
+        writer.code.push(ld(register, 8 * (FIRST_CONSTANT + place) as i32, 0));
+    }
+    // at times fewer than there are, at times one more
+    let wanted = [inputs, inputs, inputs, inputs, inputs + 1, inputs / 2];
+    for _ in 0..writer.random.pick(&wanted) {
+        writer.read();
+    }
+    for _ in 0..2 + writer.random.below(11) {
+        writer.snippet();
+    }
+    if !writer.random.once_in(12) {
+        let value = writer.value();
+        writer.code.push(addi(10, value, 0));
+        writer.code.extend(closing());
+    }
+    writer.code
+}
+
+impl Writer<'_> {
+    fn value(&mut self) -> u32 {
+        // the registers of the inputs read, more often than others
+        let read = self.reads.clamp(1, 7) as usize;
+        let common = self.random.pick(&VALUES[..read]);
+        let other = self.random.pick(&VALUES);
+        if self.random.once_in(4) {
+            other
+        } else {
+            common
+        }
+    }
+
+    /// Reads the next input to a word of its own, and loads it.
+    fn read(&mut self) {
+        let (address, register) = (8 * self.reads as i32, VALUES[self.reads as usize % 7]);
+        let call = [addi(17, 0, 63), addi(12, 0, 8), addi(10, 0, 0), addi(11, 0, address)];
+        self.code.extend(call);
+        self.code.extend([ecall(), ld(register, address, 0)]);
+        self.reads += 1;
+    }
+
+    fn snippet(&mut self) {
+        match self.random.below(40) {
+            0..=11 => self.operation(),
+            12..=14 => self.immediate(),
+            15..=20 => self.skip_unless_less(),
+            21..=25 => self.skip_if_equal(),
+            26..=29 => self.store_and_load(),
+            30..=32 => self.counted_loop(),
+            33 => self.loop_while_less(),
+            34 => self.subroutine(),
+            35 => self.read(),
+            36 => self.wild_word(),
+            _ => self.oddity(),
+        }
+    }
+
+    fn operation(&mut self) {
+        let value = self.value();
+        let other = self.value();
+        let constant = self.random.pick(&CONSTANTS);
+        let power = self.random.pick(&[SMALL_POWER, SMALL_POWER, POWER, constant]);
+        let limit = self.random.pick(&[NEAR, WIDE, constant]);
+        let rd = self.random.pick(&[value, value, other, other, other, 10, 0]);
+        let (left, right) = self.random.pick(&[(value, limit), (value, limit), (limit, value)]);
+        let word = match self.random.below(16) {
+            0..=2 => add(rd, left, right),
+            3..=5 => sub(rd, left, right),
+            6..=9 => sltu(rd, left, right),
+            10 => mul(rd, value, power),
+            11 => mul(rd, power, value),
+            12 => divu(rd, value, power),
+            13 | 14 => remu(rd, value, limit),
+            _ => self.random.pick(&[add(rd, value, other), mul(rd, constant, constant)]),
+        };
+        self.code.push(word);
+    }
+
+    fn immediate(&mut self) {
+        let (rd, value) = (self.value(), self.value());
+        let imm = self.random.pick(&[-2048, -7, -1, 0, 1, 5, 40, 2047]);
+        let upper = self.random.pick(&[0, 1, 5, 0x7FFFF, 0x80000, 0xFFFFF]);
+        let words = [addi(rd, value, imm), addi(rd, value, imm), lui(rd, upper), addi(rd, 0, imm)];
+        let word = self.random.pick(&words);
+        self.code.push(word);
+    }
+
+    /// Skips one or two words where a value is not below a constant.
+    fn skip_unless_less(&mut self) {
+        let value = self.value();
+        let limit = self.random.pick(&[NEAR, WIDE]);
+        let offset = self.random.pick(&[8, 8, 12]);
+        self.code.extend([sltu(TEST, value, limit), beq(TEST, 0, offset)]);
+    }
+
+    fn skip_if_equal(&mut self) {
+        let value = self.value();
+        let limit = self.random.pick(&[NEAR, NEAR, WIDE, 0]);
+        let offset = self.random.pick(&[8, 8, 12]);
+        let word = self.random.pick(&[beq(value, limit, offset), beq(limit, value, offset)]);
+        self.code.push(word);
+    }
+
+    /// A value through a word of memory or of the stack; at times only half of the way.
+    fn store_and_load(&mut self) {
+        let (from, to) = (self.value(), self.value());
+        let (base, offset) = self.random.pick(&[(0, 64), (0, 72), (2, -8), (2, -2048), (0, 2040)]);
+        let pair = [sd(from, offset, base), ld(to, offset, base)];
+        let words = self.random.pick(&[&pair[..], &pair[..], &pair[..1], &pair[1..]]);
+        self.code.extend(words);
+    }
+
+    fn counted_loop(&mut self) {
+        let turns = 1 + self.random.below(6) as i32;
+        self.code.push(addi(COUNTER, 0, turns));
+        let start = self.code.len();
+        for _ in 0..1 + self.random.below(3) {
+            self.operation();
+        }
+        self.code.extend([addi(COUNTER, COUNTER, -1), beq(COUNTER, 0, 8)]);
+        let back = self.code.len() - start;
+        self.code.push(jal(0, -4 * back as i32));
+    }
+
+    /// Adds to a value while it is below a constant: a fork in each turn.
+    fn loop_while_less(&mut self) {
+        let value = self.value();
+        let more = self.random.pick(&[addi(value, value, 9), add(value, value, WIDE)]);
+        self.code.extend([sltu(TEST, value, NEAR), beq(TEST, 0, 12), more, jal(0, -12)]);
+    }
+
+    fn subroutine(&mut self) {
+        self.code.extend([jal(1, 8), jal(0, 12)]);
+        self.operation();
+        self.code.push(jalr(0, 0, 1));
+    }
+
+    /// A row of the table with any registers and any immediate.
+    fn wild_word(&mut self) {
+        let rows = [0x37, 0x13, 0x33, 0x40000033, 0x02000033, 0x02005033, 0x02007033, 0x3033];
+        let short = [0x3003, 0x3023, 0x63, 0x6F, 0x67, 0x73];
+        let row: u32 = self.random.pick(&[&rows[..], &short].concat());
+        let free = match row & 0x7F {
+            0x33 => 0x01FF8F80,
+            0x37 | 0x6F => 0xFFFFFF80,
+            _ => 0xFFFF8F80,
+        };
+        self.code.push(row | self.random.next() as u32 & free);
+    }
+
+    /// What ends a path, or would without a guard before it.
+    fn oddity(&mut self) {
+        let value = self.value();
+        let odd = self.random.next() as u32;
+        let words: [&[u32]; 20] = [
+            &[ld(10, 0, value)],
+            &[sd(10, 0, value)],
+            &[jalr(1, 0, value)],
+            &[addi(17, value, 0), ecall()],
+            &[addi(17, 0, 63), addi(11, value, 0), ecall()],
+            &[addi(17, 0, 63), addi(12, value, 0), ecall()],
+            &[addi(17, 0, 63), addi(12, 0, 8), addi(10, 0, 0), addi(11, 0, 4), ecall()],
+            &[ld(10, 4, 0)],
+            &[sd(value, 0, 2)],
+            &[odd],
+            &[0],
+            &[jal(0, 6)],
+            &[jal(1, 4096)],
+            &[jalr(1, -3, 0)],
+            &[addi(17, 0, 64), ecall()],
+            &[addi(17, 0, 63), addi(12, 0, 4), ecall()],
+            &[divu(10, value, 0)],
+            &[remu(10, value, 0)],
+            &[divu(10, POWER, value)],
+            &[jal(0, 0)],
+        ];
+        self.code.extend(self.random.pick(&words));
+    }
+}
+
+// ---------------------------------------------------------------------------------------------
+// Programs as text.
+
+fn operation_name(operation: Operation) -> &'static str {
+    match operation {
+        Operation::Add => "add",
+        Operation::Sub => "sub",
+        Operation::Mul => "mul",
+        Operation::Divu => "divu",
+        Operation::Remu => "remu",
+        Operation::Sltu => "sltu",
+    }
+}
+
+fn instruction_text(word: u32) -> String {
+    let Some(instruction) = decode(word) else { return "no row".to_string() };
+    match instruction {
+        Instruction::Lui { rd, imm } => format!("lui x{rd}, {}", imm as i64),
+        Instruction::Addi { rd, rs1, imm } => format!("addi x{rd}, x{rs1}, {}", imm as i64),
+        Instruction::Register { operation, rd, rs1, rs2 } => {
+            format!("{} x{rd}, x{rs1}, x{rs2}", operation_name(operation))
+        }
+        Instruction::Ld { rd, rs1, imm } => format!("ld x{rd}, {}(x{rs1})", imm as i64),
+        Instruction::Sd { rs1, rs2, imm } => format!("sd x{rs2}, {}(x{rs1})", imm as i64),
+        Instruction::Beq { rs1, rs2, imm } => format!("beq x{rs1}, x{rs2}, {}", imm as i64),
+        Instruction::Jal { rd, imm } => format!("jal x{rd}, {}", imm as i64),
+        Instruction::Jalr { rd, rs1, imm } => format!("jalr x{rd}, {}(x{rs1})", imm as i64),
+        Instruction::Ecall => "ecall".to_string(),
+    }
+}
+
+/// A line for each word: its address, the word, the instruction.
+pub fn code_text(code: &[u32]) -> String {
+    let line = |(k, &word): (usize, &u32)| {
+        format!("  {:4}  {word:08X}  {}\n", 4 * k, instruction_text(word))
+    };
+    code.iter().enumerate().map(line).collect()
+}
