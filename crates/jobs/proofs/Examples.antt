@@ -1,0 +1,58 @@
+-- Document 01's Job A in blocks is read as it stands there, and changes of it are refused. Assumes nothing.
+use mathlib.Core.Path.{_≡_, refl}
+use mathlib.Core.List.{List, [], _∷_, _++_, flatMap}
+use mathlib.Core.Option.{Option, none, some}
+use Prim.Native.Nat.{ℕ, _+_, _*_, _^_}
+use lib.ListN.{set, drop, replicate}
+use Rattle.boxes.specs.Boxes.{from}
+use Rattle.blocks.specs.Block.{bytesOf, numberOf, checkFrom, block}
+use Rattle.calls.specs.Call.{boxOf, inOrder}
+use Rattle.jobs.specs.Job.{payloadAt, codeAt, intervalAt, codeIn, intervalsIn, memoryIn, jobRead, each, wholeBlocks, checksAgree, codeFits, inputsFit, ordered, limitFits, memoryFits, firstFits, zeroWords, zeroHalves, unusedZero, wellFormed, jobQuestions, firstNo, jobDoor, jobNumber}
+use Rattle.jobs.specs.declared.JobRefusal.{JobRefusal}
+
+unfoldable pub header : List ℕ
+header = 1 ∷ 8 ∷ 1 ∷ 100 ∷ 0 ∷ 0 ∷ 0 ∷ 0 ∷ 0 ∷ 0 ∷ 0 ∷ 0 ∷ 0 ∷ 255 ∷ []
+
+unfoldable pub code : List ℕ
+code = 0x03F00893 ∷ 0x00800613 ∷ 0x00000073 ∷ 0x00003283 ∷ 0x00A00313 ∷ 0x0062B533 ∷ 0x05D00893 ∷ 0x00000073 ∷ []
+
+unfoldable pub words : List ℕ
+words =
+    (0x03F00893 + 0x00800613 * 2 ^ 32)
+    ∷ (0x00000073 + 0x00003283 * 2 ^ 32)
+    ∷ (0x00A00313 + 0x0062B533 * 2 ^ 32)
+    ∷ (0x05D00893 + 0x00000073 * 2 ^ 32)
+    ∷ []
+
+-- Job A with another word in its header, and with other code words
+unfoldable pub changed : ℕ → ℕ → List ℕ
+changed k v = block (set header k v) ++ block words
+
+-- the number that a job is refused with, or 0
+unfoldable pub refused : Option JobRefusal → ℕ
+refused none = 0
+refused (some r) = jobNumber r
+
+unfoldable pub answers : List ℕ
+answers =
+    refused (jobDoor (block header ++ block words))
+    ∷ refused (jobDoor (drop 1 (block header ++ block words)))
+    ∷ refused (jobDoor (set (block header ++ block words) 300 1))
+    ∷ refused (jobDoor (changed 1 0))
+    ∷ refused (jobDoor (changed 2 9))
+    ∷ refused (jobDoor (changed 5 256))
+    ∷ refused (jobDoor (changed 3 0))
+    ∷ refused (jobDoor (block (set header 4 (2 ^ 32)) ++ block words))
+    ∷ refused (jobDoor (changed 0 2))
+    ∷ refused (jobDoor (changed 1 7))
+    ∷ refused (jobDoor (changed 6 1))
+    ∷ refused (jobDoor (changed 0 1 ++ block []))
+    ∷ []
+
+pub job-a-answers : answers ≡ 0 ∷ 9 ∷ 10 ∷ 1 ∷ 2 ∷ 3 ∷ 4 ∷ 8 ∷ 11 ∷ 11 ∷ 11 ∷ 11 ∷ []
+unfolding answers refused changed header words jobDoor jobQuestions firstNo wholeBlocks checksAgree each checkFrom bytesOf numberOf block codeFits inputsFit ordered inOrder boxOf intervalsIn intervalAt limitFits memoryFits firstFits wellFormed unusedZero zeroWords zeroHalves payloadAt codeAt from flatMap
+job-a-answers = refl
+
+pub job-a-read : jobRead (block header ++ block words) ≡ record { code = code; intervals = 0 ∷ 255 ∷ []; limit = 100; first = 0; memory = replicate 512 0 }
+unfolding header words code jobRead codeIn intervalsIn memoryIn intervalAt payloadAt codeAt from block bytesOf numberOf checkFrom flatMap
+job-a-read = refl

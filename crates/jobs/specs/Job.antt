@@ -1,0 +1,201 @@
+-- A job is a header block, code blocks, then memory blocks: where its parts stand, the questions on it, and what is read.
+use Prim.Native.Nat.{ℕ, zero, suc, _+_, _-_, _*_, _/_, _%_, _^_}
+use mathlib.Core.Bool.{Bool, true, cond, _&&_}
+use mathlib.Core.List.{List, [], _∷_, _++_, map}
+use mathlib.Core.Option.{Option, none, some}
+use lib.Dec.{ltb, leb, eqb}
+use lib.ListN.{length, drop, replicate}
+use Rattle.boxes.specs.Boxes.{from}
+use Rattle.blocks.specs.Block.{blockWords, blockBytes, payloadWords, wordAt, agrees}
+use Rattle.blocks.specs.Record.{room}
+use Rattle.calls.specs.Call.{number, boxOf, inOrder}
+use Rattle.calls.specs.declared.Refusal.the-variants.{Code, Inputs, Order, Limit, Memory, First}
+use Rattle.jobs.specs.declared.JobRefusal.{JobRefusal}
+use Rattle.jobs.specs.declared.JobRefusal.the-variants.{Blocks, Check, Call, Form}
+
+-- Header: 0 holds 1, 1 code count, 2 input count, 3 step limit, 4 first path, 5 to 12 lows, 13 to 20 highs, 21 memory words given.
+
+abbrev pub mark : List ℕ → ℕ
+mark bytes = wordAt bytes 0
+
+abbrev pub codeCount : List ℕ → ℕ
+codeCount bytes = wordAt bytes 1
+
+abbrev pub inputCount : List ℕ → ℕ
+inputCount bytes = wordAt bytes 2
+
+abbrev pub stepLimit : List ℕ → ℕ
+stepLimit bytes = wordAt bytes 3
+
+abbrev pub firstPath : List ℕ → ℕ
+firstPath bytes = wordAt bytes 4
+
+abbrev pub lowOf : List ℕ → ℕ → ℕ
+lowOf bytes i = wordAt bytes (5 + i)
+
+abbrev pub highOf : List ℕ → ℕ → ℕ
+highOf bytes i = wordAt bytes (13 + i)
+
+abbrev pub givenCount : List ℕ → ℕ
+givenCount bytes = wordAt bytes 21
+
+-- The parts behind the header take as few blocks as hold their words, 63 a block.
+
+abbrev pub blocksFor : ℕ → ℕ
+blocksFor words = (words + (payloadWords - 1)) / payloadWords
+
+-- payload word i of the part that begins with block b
+unfoldable pub payloadAt : List ℕ → ℕ → ℕ → ℕ
+payloadAt bytes b i = wordAt bytes ((b + i / payloadWords) * blockWords + i % payloadWords)
+
+-- two code words per payload word
+abbrev pub codeBlocks : List ℕ → ℕ
+codeBlocks bytes = blocksFor ((codeCount bytes + 1) / 2)
+
+abbrev pub firstCode : ℕ
+firstCode = 1
+
+abbrev pub firstMemory : List ℕ → ℕ
+firstMemory bytes = firstCode + codeBlocks bytes
+
+abbrev pub memoryBlocks : List ℕ → ℕ
+memoryBlocks bytes = blocksFor (givenCount bytes)
+
+-- code word j, low half first
+abbrev pub half : ℕ → ℕ → ℕ
+half j w = cond (eqb (j % 2) 0) (w % 2 ^ 32) (w / 2 ^ 32)
+
+unfoldable pub codeAt : List ℕ → ℕ → ℕ
+codeAt bytes j = half j (payloadAt bytes firstCode (j / 2))
+
+-- memory word i
+abbrev pub memoryAt : List ℕ → ℕ → ℕ
+memoryAt bytes i = payloadAt bytes (firstMemory bytes) i
+
+-- low, high, low, high
+unfoldable pub intervalAt : List ℕ → ℕ → ℕ
+intervalAt bytes j = cond (eqb (j % 2) 0) (lowOf bytes (j / 2)) (highOf bytes (j / 2))
+
+-- What is read: the code, the intervals, the step limit, the first path, the memory words given and then 0.
+
+pub record JobRead : Type 0 where
+  pub code : List ℕ
+  pub intervals : List ℕ
+  pub limit : ℕ
+  pub first : ℕ
+  pub memory : List ℕ
+
+unfoldable pub codeIn : List ℕ → List ℕ
+codeIn bytes = map (codeAt bytes) (from 0 (codeCount bytes))
+
+unfoldable pub intervalsIn : List ℕ → List ℕ
+intervalsIn bytes = map (intervalAt bytes) (from 0 (2 * inputCount bytes))
+
+unfoldable pub memoryIn : List ℕ → List ℕ
+memoryIn bytes = map (memoryAt bytes) (from 0 (givenCount bytes)) ++ replicate (512 - givenCount bytes) 0
+
+unfoldable pub jobRead : List ℕ → JobRead
+jobRead bytes =
+    record {
+      code = codeIn bytes;
+      intervals = intervalsIn bytes;
+      limit = stepLimit bytes;
+      first = firstPath bytes;
+      memory = memoryIn bytes;
+    }
+
+-- The questions.
+
+-- whether a test holds of the n numbers k, k + 1, ..
+unfoldable pub each : (ℕ → Bool) → ℕ → ℕ → Bool
+each p k zero = true
+each p k (suc n) = p k && each p (suc k) n
+
+abbrev pub blockCount : List ℕ → ℕ
+blockCount bytes = length bytes / blockBytes
+
+-- 9: 1 to 19 whole blocks
+unfoldable pub wholeBlocks : List ℕ → Bool
+wholeBlocks bytes = eqb (length bytes % blockBytes) 0 && (leb 1 (blockCount bytes) && leb (blockCount bytes) 19)
+
+-- 10: every check agrees
+abbrev pub blockAgrees : List ℕ → ℕ → Bool
+blockAgrees bytes k = agrees (drop (k * blockBytes) bytes)
+
+unfoldable pub checksAgree : List ℕ → Bool
+checksAgree bytes = each (blockAgrees bytes) 0 (blockCount bytes)
+
+-- 1, 2, 3, 4, 6, 8 on the header
+unfoldable pub codeFits : List ℕ → Bool
+codeFits bytes = leb 1 (codeCount bytes) && leb (codeCount bytes) 1024
+
+unfoldable pub inputsFit : List ℕ → Bool
+inputsFit bytes = leb (inputCount bytes) room
+
+unfoldable pub ordered : List ℕ → Bool
+ordered bytes = inOrder (boxOf (intervalsIn bytes))
+
+unfoldable pub limitFits : List ℕ → Bool
+limitFits bytes = leb 1 (stepLimit bytes) && leb (stepLimit bytes) 65536
+
+unfoldable pub memoryFits : List ℕ → Bool
+memoryFits bytes = leb (givenCount bytes) 512
+
+unfoldable pub firstFits : List ℕ → Bool
+firstFits bytes = ltb (firstPath bytes) (2 ^ 32)
+
+-- 11: word 0 equal to 1, the block count as the header needs, each unused word and half 0
+abbrev pub zeroWord : List ℕ → ℕ → ℕ → Bool
+zeroWord bytes b i = eqb (payloadAt bytes b i) 0
+
+abbrev pub zeroHalf : List ℕ → ℕ → Bool
+zeroHalf bytes j = eqb (codeAt bytes j) 0
+
+-- payload words i to e - 1 of the part that begins with block b
+unfoldable pub zeroWords : List ℕ → ℕ → ℕ → ℕ → Bool
+zeroWords bytes b i e = each (zeroWord bytes b) i (e - i)
+
+-- halves j to e - 1 of the code blocks
+unfoldable pub zeroHalves : List ℕ → ℕ → ℕ → Bool
+zeroHalves bytes j e = each (zeroHalf bytes) j (e - j)
+
+unfoldable pub unusedZero : List ℕ → Bool
+unusedZero bytes =
+    zeroWords bytes 0 (5 + inputCount bytes) 13
+    && (zeroWords bytes 0 (13 + inputCount bytes) 21
+    && (zeroWords bytes 0 22 payloadWords
+    && (zeroHalves bytes (codeCount bytes) (2 * payloadWords * codeBlocks bytes)
+    && zeroWords bytes (firstMemory bytes) (givenCount bytes) (payloadWords * memoryBlocks bytes))))
+
+unfoldable pub wellFormed : List ℕ → Bool
+wellFormed bytes =
+    eqb (mark bytes) 1 && (eqb (blockCount bytes) (firstMemory bytes + memoryBlocks bytes) && unusedZero bytes)
+
+-- the questions in their order, each with the refusal that answers its no
+unfoldable pub jobQuestions : List ℕ → List (JobRefusal × Bool)
+jobQuestions bytes =
+    (Blocks, wholeBlocks bytes)
+    ∷ (Check, checksAgree bytes)
+    ∷ (Call Code, codeFits bytes)
+    ∷ (Call Inputs, inputsFit bytes)
+    ∷ (Call Order, ordered bytes)
+    ∷ (Call Limit, limitFits bytes)
+    ∷ (Call Memory, memoryFits bytes)
+    ∷ (Call First, firstFits bytes)
+    ∷ (Form, wellFormed bytes)
+    ∷ []
+
+-- the first no
+unfoldable pub firstNo : List (JobRefusal × Bool) → Option JobRefusal
+firstNo [] = none
+firstNo (q ∷ qs) = cond (q .1) (firstNo qs) (some (q .0))
+
+-- the first no decides
+unfoldable pub jobDoor : List ℕ → Option JobRefusal
+jobDoor bytes = firstNo (jobQuestions bytes)
+
+abbrev pub jobNumber : JobRefusal → ℕ
+jobNumber Blocks = 9
+jobNumber Check = 10
+jobNumber (Call r) = number r
+jobNumber Form = 11

@@ -1,0 +1,5 @@
+-- What a reader must believe of a job in blocks.
+--     Job         where its parts stand, the questions on it, what is read
+--     Reading     what the code's contracts use beside these
+pub mod Job
+pub mod Reading

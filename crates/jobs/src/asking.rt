@@ -1,0 +1,200 @@
+// The questions on a job, asked in document 01's order; the first no decides.
+use crate::JobDoor;
+use crate::JobRefusal;
+use crate::words::FIRST_CODE;
+use crate::words::code_word;
+use crate::words::interval_word;
+use crate::words::payload_word;
+use crate::words::word;
+use blocks::BLOCK_BYTES;
+use blocks::PAYLOAD_WORDS;
+use blocks::ROOM;
+use blocks::block::checked;
+use calls::Refusal;
+use calls::questions::CODE_WORDS;
+use calls::questions::FIRST_END;
+use calls::questions::STEPS;
+use riscu::plain::Machine;
+ghost use mathlib.Core.Path.{_≡_};
+ghost use Prim.Native.Nat.{_≤_, _<_};
+ghost use Rattle.blocks.specs.Record.{room};
+ghost use Rattle.jobs.specs.Job.{inputCount, blocksFor, wholeBlocks, checksAgree, codeFits, inputsFit, ordered, limitFits, memoryFits, firstFits, zeroWords, zeroHalves, unusedZero, wellFormed, jobDoor};
+ghost use Rattle.jobs.specs.Reading.{jobDoorAs, Whole, Sized};
+
+// A header, and 1,024 code words and 512 memory words at most.
+pub const BLOCKS: usize = 19;
+
+fn whole_blocks(bytes: &[u8]) -> bool
+    ensures { λ r. ⌜ r ≡ wholeBlocks (now (bytes .entry)) ⌝ }
+{
+    let blocks = bytes.len() / BLOCK_BYTES;
+    (bytes.len() % BLOCK_BYTES == 0) & ((1 <= blocks) & (blocks <= BLOCKS))
+}
+
+fn checks_agree(bytes: &[u8]) -> bool
+    requires { ⌜ Whole (now bytes) ⌝ }
+    ensures { λ r. ⌜ r ≡ checksAgree (now (bytes .entry)) ⌝ }
+{
+    let n = bytes.len() / BLOCK_BYTES;
+    let mut k: usize = 0;
+    while k < n {
+        if !checked(bytes, k * BLOCK_BYTES) {
+            return false;
+        }
+        k += 1;
+    }
+    true
+}
+
+fn code_fits(bytes: &[u8]) -> bool
+    requires { ⌜ Whole (now bytes) ⌝ }
+    ensures { λ r. ⌜ r ≡ codeFits (now (bytes .entry)) ⌝ }
+{
+    let n = word(bytes, 1);
+    (1 <= n) & (n <= CODE_WORDS as u64)
+}
+
+fn inputs_fit(bytes: &[u8]) -> bool
+    requires { ⌜ Whole (now bytes) ⌝ }
+    ensures { λ r. ⌜ r ≡ inputsFit (now (bytes .entry)) ⌝ }
+{
+    word(bytes, 2) <= ROOM as u64
+}
+
+// Whether each low in use is at most its high.
+fn in_order(bytes: &[u8]) -> bool
+    requires { ⌜ Whole (now bytes) × (inputCount (now bytes) ≤ room) ⌝ }
+    ensures { λ r. ⌜ r ≡ ordered (now (bytes .entry)) ⌝ }
+{
+    let n = word(bytes, 2) as usize;
+    let mut k: usize = 0;
+    while k < n {
+        let low = interval_word(bytes, 2 * k);
+        if interval_word(bytes, 2 * k + 1) < low {
+            return false;
+        }
+        k += 1;
+    }
+    true
+}
+
+fn limit_fits(bytes: &[u8]) -> bool
+    requires { ⌜ Whole (now bytes) ⌝ }
+    ensures { λ r. ⌜ r ≡ limitFits (now (bytes .entry)) ⌝ }
+{
+    let n = word(bytes, 3);
+    (1 <= n) & (n <= STEPS)
+}
+
+fn memory_fits(bytes: &[u8]) -> bool
+    requires { ⌜ Whole (now bytes) ⌝ }
+    ensures { λ r. ⌜ r ≡ memoryFits (now (bytes .entry)) ⌝ }
+{
+    word(bytes, 21) <= Machine::MEMORY_WORDS as u64
+}
+
+fn first_fits(bytes: &[u8]) -> bool
+    requires { ⌜ Whole (now bytes) ⌝ }
+    ensures { λ r. ⌜ r ≡ firstFits (now (bytes .entry)) ⌝ }
+{
+    word(bytes, 4) < FIRST_END
+}
+
+// Whether payload words i to e - 1 of the part that begins with a block are 0.
+fn zero_words(bytes: &[u8], block: usize, i: usize, e: usize) -> bool
+    requires { ⌜ Whole (now bytes) × (block < 4096) × (i ≤ e) × (e < 4096) ⌝ }
+    ensures { λ r. ⌜ r ≡ zeroWords (now (bytes .entry)) block i e ⌝ }
+{
+    let mut k = i;
+    while k < e {
+        if payload_word(bytes, block, k) != 0 {
+            return false;
+        }
+        k += 1;
+    }
+    true
+}
+
+// Whether halves j to e - 1 of the code blocks are 0.
+fn zero_halves(bytes: &[u8], j: usize, e: usize) -> bool
+    requires { ⌜ Whole (now bytes) × (j ≤ e) × (e < 4096) ⌝ }
+    ensures { λ r. ⌜ r ≡ zeroHalves (now (bytes .entry)) j e ⌝ }
+{
+    let mut k = j;
+    while k < e {
+        if code_word(bytes, k) != 0 {
+            return false;
+        }
+        k += 1;
+    }
+    true
+}
+
+// As few blocks as hold the words.
+pub fn blocks_for(words: usize) -> usize
+    requires { ⌜ words < 4096 ⌝ }
+    ensures { λ r. ⌜ r ≡ blocksFor words ⌝ }
+{
+    (words + (PAYLOAD_WORDS - 1)) / PAYLOAD_WORDS
+}
+
+fn unused_zero(bytes: &[u8]) -> bool
+    requires { ⌜ Sized (now bytes) ⌝ }
+    ensures { λ r. ⌜ r ≡ unusedZero (now (bytes .entry)) ⌝ }
+{
+    let n = word(bytes, 1) as usize;
+    let inputs = word(bytes, 2) as usize;
+    let given = word(bytes, 21) as usize;
+    let code = blocks_for((n + 1) / 2);
+    let memory = blocks_for(given);
+    let lows = zero_words(bytes, 0, 5 + inputs, 13);
+    let highs = zero_words(bytes, 0, 13 + inputs, 21);
+    let rest = zero_words(bytes, 0, 22, PAYLOAD_WORDS);
+    let halves = zero_halves(bytes, n, 2 * PAYLOAD_WORDS * code);
+    let words = zero_words(bytes, FIRST_CODE + code, given, PAYLOAD_WORDS * memory);
+    lows & (highs & (rest & (halves & words)))
+}
+
+fn well_formed(bytes: &[u8]) -> bool
+    requires { ⌜ Sized (now bytes) ⌝ }
+    ensures { λ r. ⌜ r ≡ wellFormed (now (bytes .entry)) ⌝ }
+{
+    let n = word(bytes, 1) as usize;
+    let given = word(bytes, 21) as usize;
+    let needed = FIRST_CODE + blocks_for((n + 1) / 2) + blocks_for(given);
+    (word(bytes, 0) == 1) & ((bytes.len() / BLOCK_BYTES == needed) & unused_zero(bytes))
+}
+
+// The first question that is answered no.
+pub fn ask_job(bytes: &[u8]) -> JobDoor
+    ensures { λ r. ⌜ r ≡ jobDoorAs (jobDoor (now (bytes .entry))) ⌝ }
+{
+    if !whole_blocks(bytes) {
+        return JobDoor::Closed(JobRefusal::Blocks);
+    }
+    if !checks_agree(bytes) {
+        return JobDoor::Closed(JobRefusal::Check);
+    }
+    if !code_fits(bytes) {
+        return JobDoor::Closed(JobRefusal::Call(Refusal::Code));
+    }
+    if !inputs_fit(bytes) {
+        return JobDoor::Closed(JobRefusal::Call(Refusal::Inputs));
+    }
+    if !in_order(bytes) {
+        return JobDoor::Closed(JobRefusal::Call(Refusal::Order));
+    }
+    if !limit_fits(bytes) {
+        return JobDoor::Closed(JobRefusal::Call(Refusal::Limit));
+    }
+    if !memory_fits(bytes) {
+        return JobDoor::Closed(JobRefusal::Call(Refusal::Memory));
+    }
+    if !first_fits(bytes) {
+        return JobDoor::Closed(JobRefusal::Call(Refusal::First));
+    }
+    if !well_formed(bytes) {
+        return JobDoor::Closed(JobRefusal::Form);
+    }
+    JobDoor::Open
+}

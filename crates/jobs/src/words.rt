@@ -1,0 +1,59 @@
+// The words of a job: of its header, of a part that begins with some block, and the halves that are code words.
+use blocks::BLOCK_WORDS;
+use blocks::PAYLOAD_WORDS;
+use blocks::WORD_BYTES;
+use blocks::words::word_at;
+ghost use mathlib.Core.Path.{_≡_};
+ghost use Prim.Native.Nat.{_<_};
+ghost use lib.ListN.{length};
+ghost use Rattle.blocks.specs.Block.{wordAt};
+ghost use Rattle.jobs.specs.Job.{payloadAt, codeAt, intervalAt};
+ghost use Rattle.jobs.specs.Reading.{Whole};
+
+// The block that the code begins with.
+pub const FIRST_CODE: usize = 1;
+
+// Word k of whole blocks; 0 past the end.
+pub fn word(bytes: &[u8], k: usize) -> u64
+    requires { ⌜ Whole (now bytes) ⌝ }
+    ensures { λ r. ⌜ r ≡ wordAt (now (bytes .entry)) k ⌝ }
+{
+    if k < bytes.len() / WORD_BYTES {
+        return word_at(bytes, k * WORD_BYTES);
+    }
+    0
+}
+
+// Payload word i of the part that begins with a block.
+pub fn payload_word(bytes: &[u8], block: usize, i: usize) -> u64
+    requires { ⌜ Whole (now bytes) × (block < 4096) × (i < 4096) ⌝ }
+    ensures { λ r. ⌜ r ≡ payloadAt (now (bytes .entry)) block i ⌝ }
+{
+    word(
+        bytes,
+        (block + i / PAYLOAD_WORDS) * BLOCK_WORDS + i % PAYLOAD_WORDS,
+    )
+}
+
+// Code word j: the low half first.
+pub fn code_word(bytes: &[u8], j: usize) -> u32
+    requires { ⌜ Whole (now bytes) × (j < 4096) ⌝ }
+    ensures { λ r. ⌜ r ≡ codeAt (now (bytes .entry)) j ⌝ }
+{
+    let w = payload_word(bytes, FIRST_CODE, j / 2);
+    if j % 2 == 0 {
+        return (w % 4294967296) as u32;
+    }
+    (w / 4294967296) as u32
+}
+
+// Interval word j: low, high, low, high.
+pub fn interval_word(bytes: &[u8], j: usize) -> u64
+    requires { ⌜ Whole (now bytes) × (j < 4096) ⌝ }
+    ensures { λ r. ⌜ r ≡ intervalAt (now (bytes .entry)) j ⌝ }
+{
+    if j % 2 == 0 {
+        return word(bytes, 5 + j / 2);
+    }
+    word(bytes, 13 + j / 2)
+}

@@ -1,0 +1,12 @@
+// The program: a job on standard input, its listing or `turned away N` on standard output.
+// It explores with a table of 8,192 words and a report of 64 paths.
+// All that matters is proved in `serving`; only the system calls are assumed.
+
+fn main() {
+    let mut input = io::large_buffer();
+    let n = io::read_full(0, &mut input);
+    let mut report = io::large_buffer();
+    let mut text = io::large_buffer();
+    let length = serving::respond(&input[..n], &mut report, &mut text);
+    io::write_all(1, &text[..length]);
+}

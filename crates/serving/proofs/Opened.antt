@@ -1,0 +1,132 @@
+-- What the reader leaves, and what the server's call makes of it.
+-- Assumes nothing.
+use mathlib.Core.Path.{_≡_, refl, sym, ap, _∙_}
+use mathlib.Core.Bool.{Bool}
+use mathlib.Core.List.{List, _++_, map}
+use mathlib.Core.Option.{Option, none, some}
+use Prim.Native.Nat.{ℕ, _+_, _-_, _*_, _/_, _≤_}
+use native.Mathlib.Nat.{div-mul-le-self}
+use native.Mathlib.Omega.{arith}
+use lib.ListN.{length, take, drop, replicate, length-append, length-drop, length-map, length-replicate, length-take}
+use lib.Seq.{take-at}
+use Rattle.boxes.specs.Boxes.{from}
+use Rattle.boxes.proofs.Lists.{length-from}
+use Rattle.blocks.specs.Record.{room, pathBytes}
+use Rattle.calls.specs.Call.{Call, callOf, door, jobOf, page, Reply, replyBy, replyTo, Left, left, called}
+use Rattle.calls.specs.declared.Refusal.{Refusal}
+use Rattle.listing.specs.Listing.{listing}
+use Rattle.calls.specs.declared.Answer.{Answer}
+use Rattle.jobs.specs.Job.{codeIn, intervalsIn, memoryIn, jobRead, jobDoor}
+use Rattle.jobs.specs.Reading.{countsIn, over, JobLeft, jobLeft, readBy, readTo}
+use Rattle.jobs.specs.declared.JobRefusal.{JobRefusal}
+use Rattle.jobs.specs.declared.Counts.{Counts}
+use Rattle.jobs.specs.declared.JobAnswer.the-variants.{Refused, Read}
+use Rattle.jobs.proofs.Asked.{open-sized}
+use Rattle.serving.specs.Served.{tableWords, reply, servedAs, callIn, ServedLeft, servedLeft, servedBy, served}
+use Rattle.serving.specs.declared.Served.the-variants as served
+
+-- a part at the front of a slice, and its length
+pub front-length : (n : ℕ) (l : List ℕ) → n ≤ length l → n ≡ length (take n l)
+front-length n l h = sym (rw length-take (omega arith))
+
+-- the reply of an exploration with the program's table
+pub explored-reply : (a : Answer) (report table words memory : List ℕ) (c : Call) → left a report words memory ≡ called memory table c → length table ≡ tableWords
+    → reply a report ≡ replyTo memory tableWords c
+unfolding called
+explored-reply a report table words memory c e n = ap (λ (l : Left). l .reply) e ∙ ap (λ (k : ℕ). replyTo memory k c) n
+
+module _ (job code intervals memory : List ℕ) (c i m : List ℕ) where
+  pub read-refused : {r : JobRefusal} → jobLeft (Refused r) c i m ≡ readTo job code intervals memory → (report : List ℕ)
+      → servedLeft (served.Refused r) report ≡ served job report
+  unfolding readTo readBy served servedBy
+  read-refused {r} e report = go (jobDoor job) e
+    where
+      go : (o : Option JobRefusal) → jobLeft (Refused r) c i m ≡ readBy job code intervals memory o → servedLeft (served.Refused r) report ≡ servedBy job report o
+      go (some q) e =
+          let a : Refused r ≡ Refused q = ap (λ (l : JobLeft). l .answer) e in
+          let b : r ≡ q = cc in
+          ap (λ (x : JobRefusal). servedLeft (served.Refused x) report) b
+      go none e =
+          let a : Refused r ≡ Read (countsIn job) = ap (λ (l : JobLeft). l .answer) e in
+          let z : _≡_ {A = ℕ} 0 1 = cc in
+          absurd (omega arith)
+
+  -- what is known of a job that was read
+  pub record Opened (k : Counts) : Type 0 where
+    pub opens : jobDoor job ≡ none
+    pub counts : k ≡ countsIn job
+    pub code-is : c ≡ over (codeIn job) code
+    pub intervals-is : i ≡ over (intervalsIn job) intervals
+    pub memory-is : m ≡ memoryIn job
+
+  pub read-open : {k : Counts} → jobLeft (Read k) c i m ≡ readTo job code intervals memory → Opened k
+  unfolding readTo readBy jobRead
+  read-open {k} e = go (jobDoor job) refl e
+    where
+      go : (o : Option JobRefusal) → jobDoor job ≡ o → jobLeft (Read k) c i m ≡ readBy job code intervals memory o → Opened k
+      go (some q) d e =
+          let a : Read k ≡ Refused q = ap (λ (l : JobLeft). l .answer) e in
+          let z : _≡_ {A = ℕ} 0 1 = cc in
+          absurd (omega arith)
+      go none d e =
+          let a : Read k ≡ Read (countsIn job) = ap (λ (l : JobLeft). l .answer) e in
+          record {
+            opens = d;
+            counts = cc;
+            code-is = ap (λ (l : JobLeft). l .code) e;
+            intervals-is = ap (λ (l : JobLeft). l .intervals) e;
+            memory-is = ap (λ (l : JobLeft). l .memory) e;
+          }
+
+  module _ {k : Counts} (o : Opened k) (code-room : length code ≡ 1024) (intervals-room : length intervals ≡ 2 * room) where
+    code-count : length (codeIn job) ≡ k .code
+    unfolding codeIn
+    code-count = length-map (from 0 _) _ ∙ length-from _ 0 ∙ sym (ap (λ (x : Counts). x .code) (o .counts))
+
+    intervals-count : length (intervalsIn job) ≡ 2 * k .inputs
+    unfolding intervalsIn
+    intervals-count = length-map (from 0 _) _ ∙ length-from _ 0 ∙ sym (ap (λ (x : Counts). 2 * x .inputs) (o .counts))
+
+    pub code-few : k .code ≤ 1024
+    code-few = omega (arith, open-sized job (o .opens) .code, ap (λ (x : Counts). x .code) (o .counts))
+
+    pub inputs-few : k .inputs ≤ room
+    inputs-few = omega (arith, open-sized job (o .opens) .inputs, ap (λ (x : Counts). x .inputs) (o .counts))
+
+    pub code-length : 1024 ≡ length c
+    code-length = rw (o .code-is, length-append, length-drop) (omega (arith, code-few, code-count))
+
+    pub intervals-length : 2 * room ≡ length i
+    intervals-length = rw (o .intervals-is, length-append, length-drop) (omega (arith, inputs-few, intervals-count))
+
+    pub memory-length : 512 ≡ length m
+    unfolding memoryIn
+    memory-length = rw (o .memory-is, length-append, length-map, length-from, length-replicate) (omega (arith, open-sized job (o .opens) .given))
+
+    pub served-open : (a : Answer) (report left : List ℕ)
+        → reply a left ≡ replyTo m tableWords (callOf (take (k .code) c) (take (2 * k .inputs) i) (k .limit) report (k .first))
+        → servedLeft (servedAs a) left ≡ served job report
+    unfolding served servedBy jobRead
+    served-open a report left e =
+        let p : take (k .code) c ≡ codeIn job = rw (o .code-is) (take-at (codeIn job) (drop (length (codeIn job)) code) (k .code) code-count) in
+        let q : take (2 * k .inputs) i ≡ intervalsIn job = rw (o .intervals-is) (take-at (intervalsIn job) (drop (length (intervalsIn job)) intervals) (2 * k .inputs) intervals-count) in
+        let f = rw (p, q, o .memory-is, o .counts) at e in
+        rw (o .opens) (ap (λ (y : Reply). servedLeft (servedAs (y .answer)) (y .report)) f)
+
+-- a page has no more paths than its report has room for
+pub listed-fits : {n : ℕ} {m : Bool} (job report left : List ℕ) → servedLeft (served.Listed n m) left ≡ served job report → n * pathBytes ≤ length report
+unfolding served servedBy replyTo replyBy servedAs page
+listed-fits {n} {m} job report left e = go (jobDoor job) e
+  where
+    replied : (o : Option Refusal) → served.Listed n m ≡ servedAs (replyBy (jobRead job .memory) tableWords (callIn job report) o .answer) → n * pathBytes ≤ length report
+    replied (some r) e = let z : _≡_ {A = ℕ} 0 1 = cc in absurd (omega arith)
+    replied none e =
+        let k : n ≡ length (take (length report / pathBytes) (drop (jobRead job .first) (listing (jobOf (jobRead job .memory) tableWords (callIn job report))))) = cc in
+        omega (arith, simp length-take at k, div-mul-le-self (length report) pathBytes)
+
+    go : (o : Option JobRefusal) → servedLeft (served.Listed n m) left ≡ servedBy job report o → n * pathBytes ≤ length report
+    go (some r) e =
+        let a : served.Listed n m ≡ served.Refused r = ap (λ (l : ServedLeft). l .answer) e in
+        let z : _≡_ {A = ℕ} 0 1 = cc in
+        absurd (omega arith)
+    go none e = replied (door (jobRead job .memory) tableWords (callIn job report)) (ap (λ (l : ServedLeft). l .answer) e)

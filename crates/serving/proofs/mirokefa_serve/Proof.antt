@@ -1,0 +1,20 @@
+use Rattle.serving.specs.Served.{ServedLeft, outcomeOf}
+use mathlib.Core.Path.{_≡_, refl, sym, ap, _∙_}
+use borrow.Author.Needs.{needs}
+use Rattle.serving.proofs.mirokefa_serve.Statement.{statement}
+use Rattle.serving.proofs.mirokefa_serve.Tie as tie
+
+serve-requires : tie.Need-serve-requires
+serve-requires c κs = search needs
+
+outcome-requires : tie.Need-outcome-requires
+outcome-requires c κs = search needs
+
+same-length : tie.Need-same-length
+same-length c = search needs
+
+returns : tie.Need-returns
+returns c = (c .outcome .ensures ∙ ap (λ (l : ServedLeft). outcomeOf (l .answer)) (c .before .before .before .serve .ensures), ap (λ (l : ServedLeft). l .report) (c .before .before .before .serve .ensures))
+
+pub mirokefa-serve-spec : {M : Type 1} → statement M
+mirokefa-serve-spec = tie.close (tie.spec serve-requires outcome-requires same-length returns)

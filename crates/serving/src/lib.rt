@@ -1,0 +1,130 @@
+// The course server's call and the program's answer, on bytes: job blocks in, a report or its text out.
+// Both explore the job with a table of their own; the server's call asks the program's questions and then question 7.
+// What a reader must believe stands in specs/: what a served call leaves, and the program's text.
+use blocks::ROOM;
+use calls::Answer;
+use calls::Outcome;
+use calls::questions::CODE_WORDS;
+use explorer::border::explore;
+use jobs::Counts;
+use jobs::JobAnswer;
+use jobs::JobRefusal;
+use jobs::job_number;
+use jobs::reading::read_job;
+use printing::print_listing;
+use printing::print_refusal;
+use riscu::plain::Machine;
+ghost use mathlib.Core.Path.{_≡_};
+ghost use Prim.Native.Nat.{_*_, _≤_};
+ghost use lib.ListN.{length, take};
+ghost use Rattle.calls.specs.Call.{callOf, replyTo};
+ghost use Rattle.calls.specs.Door.{yesNumber};
+ghost use Rattle.printing.specs.Sheet.{fitted, fitting};
+ghost use Rattle.serving.specs.Response.{responseTo};
+ghost use Rattle.serving.specs.Served.{tableWords, reply, servedAs, servedLeft, served, outcomeOf};
+
+pub const TABLE_WORDS: usize = 8192;
+
+// What a served call answers.
+pub enum Served {
+    Refused(JobRefusal),
+    Listed { count: u64, more: bool },
+}
+
+// Explores what was read.
+fn explore_read(
+    code: &[u32],
+    intervals: &[u64],
+    memory: &[u64],
+    counts: Counts,
+    report: &mut [u8],
+) -> Answer
+    requires { ⌜ (counts .code ≤ length (now code)) × (2 * counts .inputs ≤ length (now intervals)) ⌝ }
+    ensures { λ r. ⌜ reply r (now (report .exit)) ≡ replyTo (now (memory .entry)) tableWords (callOf (take (counts .code) (now (code .entry))) (take (2 * counts .inputs) (now (intervals .entry))) (counts .limit) (now (report .entry)) (counts .first)) ⌝ }
+{
+    let n = counts.code as usize;
+    let m = 2 * counts.inputs as usize;
+    let mut table = [0u64; TABLE_WORDS];
+    explore(
+        &code[..n],
+        memory,
+        &intervals[..m],
+        counts.limit,
+        &mut table,
+        report,
+        counts.first,
+    )
+}
+
+// An answer of the exploration: after the job's questions only 7 can still refuse.
+fn served_as(a: Answer) -> Served
+    ensures { λ r. ⌜ r ≡ servedAs a ⌝ }
+{
+    match a {
+        Answer::Refused(r) => Served::Refused(JobRefusal::Call(r)),
+        Answer::Page { count, more } => Served::Listed { count, more },
+    }
+}
+
+// Reads a job, explores it and writes a page of its paths, or refuses it.
+pub fn serve(job: &[u8], report: &mut [u8]) -> Served
+    ensures { λ r. ⌜ servedLeft r (now (report .exit)) ≡ served (now (job .entry)) (now (report .entry)) ⌝ }
+{
+    let mut code = [0u32; CODE_WORDS];
+    let mut intervals = [0u64; 2 * ROOM];
+    let mut memory = [0u64; Machine::MEMORY_WORDS];
+    let answer = read_job(job, &mut code, &mut intervals, &mut memory);
+    match answer {
+        JobAnswer::Refused(r) => Served::Refused(r),
+        JobAnswer::Read(counts) => {
+            let a = explore_read(&code, &intervals, &memory, counts, report);
+            served_as(a)
+        }
+    }
+}
+
+// 1 for yes, 0 for no.
+fn yes_number(yes: bool) -> u64
+    ensures { λ n. ⌜ n ≡ yesNumber yes ⌝ }
+{
+    if yes { 1 } else { 0 }
+}
+
+// The answer in numbers.
+fn outcome(a: Served) -> Outcome
+    ensures { λ r. ⌜ r ≡ outcomeOf a ⌝ }
+{
+    match a {
+        Served::Refused(r) => Outcome {
+            refused: job_number(r),
+            count: 0,
+            more: 0,
+        },
+        Served::Listed { count, more } => Outcome {
+            refused: 0,
+            count,
+            more: yes_number(more),
+        },
+    }
+}
+
+// The server's call for C: job blocks in, a report out.
+#[no_mangle]
+pub extern "C" fn mirokefa_serve(job: &[u8], report: &mut [u8]) -> Outcome
+    ensures answer { λ r. ⌜ r ≡ outcomeOf (served (now (job .entry)) (now (report .entry)) .answer) ⌝ }
+    ensures bytes { λ r. ⌜ now (report .exit) ≡ served (now (job .entry)) (now (report .entry)) .report ⌝ }
+{
+    let a = serve(job, report);
+    outcome(a)
+}
+
+// The program's answer to a job, written at the start of `out`, as far as it fits; how many bytes it wrote.
+pub fn respond(job: &[u8], report: &mut [u8], out: &mut [u8]) -> usize
+    ensures { λ r. ⌜ (now (out .exit) ≡ fitted (responseTo (served (now (job .entry)) (now (report .entry)))) (now (out .entry))) × (r ≡ fitting (responseTo (served (now (job .entry)) (now (report .entry)))) (now (out .entry))) ⌝ }
+{
+    let a = serve(job, report);
+    match a {
+        Served::Refused(r) => print_refusal(job_number(r), out),
+        Served::Listed { count, more } => print_listing(report, count as usize, more, out),
+    }
+}

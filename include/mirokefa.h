@@ -1,0 +1,141 @@
+/* The interval path explorer for RISC-U: the functions of libexplorer.a and libserving.a for C and C++.
+ *
+ * A program is explored over a box of inputs, one interval for each. The paths of the listing are
+ * written to a report, a page at a time. docs/NUMBERS.md explains every number in words. */
+
+#ifndef MIROKEFA_H
+#define MIROKEFA_H
+
+#include <stddef.h>
+#include <stdint.h>
+
+#ifdef __cplusplus
+extern "C" {
+#endif
+
+/* ---- Sizes ---- */
+
+#define MIROKEFA_MOST_CODE_WORDS 1024   /* the code has 1 to so many words of 32 bits */
+#define MIROKEFA_MOST_INPUTS 8          /* a box has 0 to so many inputs, two interval words each */
+#define MIROKEFA_MOST_STEPS 65536       /* the step limit is 1 to so many */
+#define MIROKEFA_MEMORY_WORDS 512       /* memory has exactly so many words of 64 bits */
+#define MIROKEFA_ENTRY_WORDS 8          /* table words that make one trace entry */
+#define MIROKEFA_BLOCK_WORDS 64         /* words of 64 bits in a block, the last one its check */
+#define MIROKEFA_BLOCK_BYTES 512        /* bytes of a block */
+#define MIROKEFA_PATH_BYTES 1024        /* bytes of a path in the report: two blocks */
+#define MIROKEFA_PATH_NUMBERS (UINT64_C(1) << 32) /* the first path wanted is below this */
+
+/* The table of the course's program; a larger one follows longer paths. */
+#define MIROKEFA_USUAL_TABLE_WORDS 8192
+
+/* ---- Refusals ---- */
+
+/* The questions are asked in this order, and the first no decides. A refused call reports no path
+ * and changes nothing lent. */
+enum mirokefa_refusal {
+    MIROKEFA_ACCEPTED = 0,
+    MIROKEFA_REFUSED_CODE = 1,      /* the code is not 1 to 1,024 words */
+    MIROKEFA_REFUSED_INPUTS = 2,    /* the intervals are not whole pairs, or of more than 8 inputs */
+    MIROKEFA_REFUSED_ORDER = 3,     /* an interval's low is above its high */
+    MIROKEFA_REFUSED_LIMIT = 4,     /* the step limit is not 1 to 65,536 */
+    MIROKEFA_REFUSED_TABLE = 5,     /* the table has fewer than 8 words */
+    MIROKEFA_REFUSED_MEMORY = 6,    /* memory is not exactly 512 words */
+    MIROKEFA_REFUSED_REPORT = 7,    /* the report is empty or not a multiple of 1,024 bytes */
+    MIROKEFA_REFUSED_FIRST = 8      /* the first path wanted is not below 2^32 */
+};
+
+/* ---- How a path ends ---- */
+
+enum mirokefa_kind {
+    MIROKEFA_EXIT = 1,              /* exit, with the value in register 10 */
+    MIROKEFA_DIVISION_BY_ZERO = 2,  /* DIVU or REMU by 0 */
+    MIROKEFA_BAD_PC = 3,            /* pc not a multiple of 4 or beyond the code */
+    MIROKEFA_BAD_WORD = 4,          /* the word is none of the fourteen instructions */
+    MIROKEFA_BAD_ADDRESS = 5,       /* data address not a multiple of 8 or above 4,088 */
+    MIROKEFA_BAD_CALL = 6,          /* no such call, or a read with wrong registers */
+    MIROKEFA_STEP_LIMIT = 7,        /* the steps equal the limit */
+    MIROKEFA_NOT_FOLLOWED = 8,      /* the engine does not follow it; the reason says why */
+    MIROKEFA_TABLE_FULL = 9         /* the trace needs more entries than are left */
+};
+
+enum mirokefa_reason {
+    MIROKEFA_BOTH_OPEN = 1,         /* both operands of ADD, SUB, MUL, SLTU or BEQ not fixed */
+    MIROKEFA_MULTIPLIER = 2,        /* MUL by a fixed number, neither 0 nor a power of two */
+    MIROKEFA_DIVISOR = 3,           /* DIVU by a fixed number that is no power of two */
+    MIROKEFA_DIVISOR_OPEN = 4,      /* DIVU or REMU by a number that is not fixed */
+    MIROKEFA_QUOTIENTS = 5,         /* MUL or REMU with quotients more than 1 apart */
+    MIROKEFA_BASE_OPEN = 6,         /* base of LD, SD or JALR not fixed */
+    MIROKEFA_CALL_OPEN = 7          /* register 17, or for a read 10, 11 or 12, not fixed */
+};
+
+/* ---- The report ---- */
+
+/* A path is two blocks of little-endian words. These are places in the first block; further words
+ * are 0, and so are the places of unused inputs. */
+enum mirokefa_path_word {
+    MIROKEFA_PATH_NUMBER = 0,       /* from 0, in the order of the listing */
+    MIROKEFA_PATH_KIND = 1,
+    MIROKEFA_PATH_PC = 2,
+    MIROKEFA_PATH_STEPS = 3,        /* instructions completed */
+    MIROKEFA_PATH_INPUT_COUNT = 4,
+    MIROKEFA_PATH_LOWS = 5,         /* the lows of up to 8 inputs */
+    MIROKEFA_PATH_HIGHS = 13,       /* their highs */
+    MIROKEFA_PATH_EXIT_LOW = 21,    /* 0 unless the kind is 1 */
+    MIROKEFA_PATH_EXIT_HIGH = 22,
+    MIROKEFA_PATH_REASON = 23,      /* 0 unless the kind is 8 */
+    MIROKEFA_PATH_INPUTS_READ = 24,
+    MIROKEFA_BLOCK_CHECK = 63       /* start with 1; for each word: turn left by one bit, add the word */
+};
+
+/* Places in the second block, which begins with the path number too: low and high of register r,
+ * 1 to 31. */
+#define MIROKEFA_REGISTER_LOW(r) (2 * (r) - 1)
+#define MIROKEFA_REGISTER_HIGH(r) (2 * (r))
+
+/* ---- Calls ---- */
+
+/* What a call answers. */
+struct mirokefa_outcome {
+    uint64_t refused;   /* 0 for an accepted call, otherwise the number of a refusal */
+    uint64_t count;     /* the paths written to the report; 0 for a refused call */
+    uint64_t more;      /* 1 if there is a path numbered first + count, otherwise 0 */
+};
+
+/* Explores a program and writes the paths of its listing from `first` on, as many as exist and fit.
+ *
+ * Each part is lent for the time of the call as a pointer and a number of elements. The pointer
+ * must be good for so many elements and aligned for its type; with 0 elements it may be null.
+ * The table and the report are written, and overlap nothing else lent.
+ *
+ * code       the program: word k has address 4k. Read only.
+ * memory     the data words at addresses 0, 8, 16 and so on, as the program finds them. The program's
+ *            stores are not seen here: memory stays as lent. Read only.
+ * intervals  low, high, low, high: the box, with both ends included, in the order in which the
+ *            program reads its inputs. Read only.
+ * limit      a path that has completed so many steps ends with kind 7.
+ * table      room for the trace, 8 words for an entry; a remainder makes none. May come with any
+ *            content; after an accepted call the whole table is 0.
+ * report     room for the paths, 1,024 bytes for each. Bytes beyond the paths written stay as lent.
+ * first      the number of the first path wanted. Past the last path, the answer is count 0 and
+ *            more 0. For the next page, ask for first + count. */
+struct mirokefa_outcome mirokefa_explore(
+    const uint32_t *code, size_t code_words,
+    const uint64_t *memory, size_t memory_words,
+    const uint64_t *intervals, size_t interval_words,
+    uint64_t limit,
+    uint64_t *table, size_t table_words,
+    uint8_t *report, size_t report_bytes,
+    uint64_t first);
+
+/*
+ * The server's call (libserving.a): a job in blocks of 512 bytes in, a page of its paths out. It explores with a table and a
+ * memory of its own. refused is 9 if the job is not 1 to 19 whole blocks, 10 if a check does not agree, 11 if a part is out of
+ * its form, or the number of the question that the job, or the report (7), answers with no; then nothing lent is changed.
+ */
+struct mirokefa_outcome mirokefa_serve(const uint8_t *job, size_t job_bytes, uint8_t *report, size_t report_bytes);
+
+#ifdef __cplusplus
+}
+#endif
+
+#endif

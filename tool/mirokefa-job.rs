@@ -1,0 +1,290 @@
+//! Makes, shows and explores jobs. Exploring is done by the proved library; the rest is not proved.
+
+mod blocks;
+mod instruction;
+mod job;
+#[path = "../host/library.rs"]
+mod library;
+mod numbers;
+#[cfg(test)]
+mod random;
+mod report;
+mod show;
+mod source;
+#[cfg(test)]
+mod source_tests;
+
+use job::{Job, MOST_BLOCKS};
+use report::{Shown, PATH_BYTES};
+use std::fs::File;
+use std::io::{Read, Write};
+use std::process::ExitCode;
+
+const USAGE: &str = "\
+usage: mirokefa-job make FILE.s > FILE.job
+       mirokefa-job show FILE.s|FILE.job
+       mirokefa-job report FILE.report
+       mirokefa-job explore FILE.s|FILE.job [--first N] [--paths N] [--registers] [--report FILE]
+";
+
+/// The program's table and report, as document 01 sets them.
+const TABLE_WORDS: usize = 8192;
+const PAGE_PATHS: usize = 64;
+/// Larger pages are not worth their memory: ask for the next one.
+const MOST_PAGE_PATHS: u64 = 65_536;
+const MOST_SOURCE_BYTES: usize = 1 << 24;
+
+// Exit statuses.
+const TURNED_AWAY: u8 = 1;
+const FAULT: u8 = 2;
+
+/// What a command writes, and its exit status.
+#[derive(Default)]
+struct Output {
+    out: Vec<u8>,
+    note: String,
+    status: u8,
+}
+
+fn output(text: impl Into<Vec<u8>>) -> Output {
+    Output { out: text.into(), ..Output::default() }
+}
+
+fn turned_away(number: u64) -> Output {
+    let note = format!("mirokefa-job: refusal {number}: {}\n", numbers::refusal_text(number));
+    Output { out: format!("turned away {number}\n").into(), note, status: TURNED_AWAY }
+}
+
+/// A fault's message, of whole lines.
+type Result<T> = std::result::Result<T, String>;
+
+fn fault(what: &str, message: impl std::fmt::Display) -> String {
+    format!("{what}: {message}\n")
+}
+
+// ---------------------------------------------------------------------------------------------
+// Files.
+
+/// The bytes of a file, or a few more than `most` of them.
+fn read_file(name: &str, most: usize) -> Result<Vec<u8>> {
+    let mut bytes = Vec::new();
+    let file = File::open(name).map_err(|error| fault(name, error))?;
+    file.take(most as u64 + 1).read_to_end(&mut bytes).map_err(|error| fault(name, error))?;
+    Ok(bytes)
+}
+
+fn read_source(name: &str) -> Result<Job> {
+    let bytes = read_file(name, MOST_SOURCE_BYTES)?;
+    if bytes.len() > MOST_SOURCE_BYTES {
+        return Err(fault(name, "the file is too long for a source text"));
+    }
+    let text = std::str::from_utf8(&bytes).map_err(|error| {
+        let lines = bytes[..error.valid_up_to()].iter().filter(|&&byte| byte == b'\n').count();
+        fault(&format!("{name}:{}", lines + 1), "this is not UTF-8 text")
+    })?;
+    source::assemble(text).map_err(|faults| {
+        let line = |at: &source::Fault| fault(&format!("{name}:{}", at.line), &at.message);
+        faults.iter().map(line).collect()
+    })
+}
+
+/// A job from its source or from its blocks; the inner error is a refusal.
+fn read_job(name: &str) -> Result<std::result::Result<Job, u64>> {
+    if name.ends_with(".s") {
+        return read_source(name).map(Ok);
+    }
+    Ok(job::read(&read_file(name, MOST_BLOCKS * blocks::BLOCK_BYTES)?))
+}
+
+// ---------------------------------------------------------------------------------------------
+// Commands.
+
+fn make(name: &str) -> Result<Output> {
+    read_source(name).map(|job| output(job.to_bytes()))
+}
+
+fn show(name: &str) -> Result<Output> {
+    let shown = |job: Job| output(show::job_text(&job));
+    read_job(name).map(|read| read.map_or_else(turned_away, shown))
+}
+
+fn report(name: &str) -> Result<Output> {
+    let bytes = read_file(name, MOST_PAGE_PATHS as usize * PATH_BYTES)?;
+    let (text, faults) = report::report_text(&bytes).map_err(|message| fault(name, message))?;
+    Ok(Output { status: if faults > 0 { FAULT } else { 0 }, ..output(text) })
+}
+
+#[derive(Clone, Debug, PartialEq, Eq)]
+struct Options {
+    first: Option<u64>,
+    paths: usize,
+    shown: Shown,
+    report: Option<String>,
+}
+
+fn options(arguments: &[String]) -> Result<Options> {
+    let mut options = Options { first: None, paths: PAGE_PATHS, shown: Shown::None, report: None };
+    let mut left = arguments.iter();
+    while let Some(argument) = left.next() {
+        match (argument.as_str(), &mut left) {
+            ("--registers", _) => options.shown = Shown::All,
+            ("--first", left) => options.first = Some(option_number(argument, left.next())?),
+            ("--paths", left) => options.paths = path_count(argument, left.next())?,
+            ("--report", left) => options.report = Some(left.next().ok_or(USAGE)?.clone()),
+            _ => return Err(USAGE.to_string()),
+        }
+    }
+    Ok(options)
+}
+
+fn option_number(option: &str, text: Option<&String>) -> Result<u64> {
+    let number = text.and_then(|text| text.parse().ok());
+    number.ok_or_else(|| fault(option, "a number from 0 to 18446744073709551615 must follow"))
+}
+
+fn path_count(option: &str, text: Option<&String>) -> Result<usize> {
+    let count = option_number(option, text)?;
+    if count > MOST_PAGE_PATHS {
+        return Err(fault(option, format!("{count} is above {MOST_PAGE_PATHS}")));
+    }
+    Ok(count as usize)
+}
+
+fn explore(name: &str, arguments: &[String]) -> Result<Output> {
+    let options = options(arguments)?;
+    match read_job(name)? {
+        Ok(job) => explore_job(&job, &options),
+        Err(number) => Ok(turned_away(number)),
+    }
+}
+
+fn explore_job(job: &Job, options: &Options) -> Result<Output> {
+    let mut table = vec![0; TABLE_WORDS];
+    let mut page = vec![0; options.paths * PATH_BYTES];
+    let reply = library::explore(
+        &job.code,
+        &job.whole_memory(),
+        &job.flat_intervals(),
+        job.limit,
+        &mut table,
+        &mut page,
+        options.first.unwrap_or(job.first),
+    );
+    if reply.refused != 0 {
+        return Ok(turned_away(reply.refused));
+    }
+    if let Some(name) = &options.report {
+        std::fs::write(name, &page).map_err(|error| fault(name, error))?;
+    }
+    page.truncate(reply.count as usize * PATH_BYTES);
+    let listing = report::listing(&page, reply.more != 0, options.shown);
+    listing.map(output).map_err(|message| fault("the library's report", message))
+}
+
+// ---------------------------------------------------------------------------------------------
+// The program.
+
+fn run(arguments: &[String]) -> Result<Output> {
+    let words: Vec<&str> = arguments.iter().map(String::as_str).collect();
+    match words[..] {
+        ["make", name] => make(name),
+        ["show", name] => show(name),
+        ["report", name] => report(name),
+        ["explore", name, ..] => explore(name, &arguments[2..]),
+        ["help" | "--help" | "-h"] => Ok(output(USAGE)),
+        _ => Err(USAGE.to_string()),
+    }
+}
+
+fn main() -> ExitCode {
+    let arguments: Vec<String> =
+        std::env::args_os().skip(1).map(|word| word.to_string_lossy().into_owned()).collect();
+    let output =
+        run(&arguments).unwrap_or_else(|note| Output { note, status: FAULT, ..Output::default() });
+    // the notes last, and a closed standard output is a fault and no panic
+    let written = std::io::stdout().write_all(&output.out).and_then(|_| std::io::stdout().flush());
+    let _ = std::io::stderr().write_all(output.note.as_bytes());
+    ExitCode::from(if written.is_ok() { output.status } else { FAULT })
+}
+
+#[cfg(test)]
+mod tests {
+    use super::*;
+
+    const JOB_A_LISTING: &str = "paths 2 more 0\n\
+        path 0 end 1 at 28 steps 7 in 0..9 exit 1..1\n\
+        path 1 end 1 at 28 steps 7 in 10..255 exit 0..0\n";
+
+    fn job_a() -> Job {
+        source::assemble(include_str!("../jobs/job-a.s")).unwrap()
+    }
+
+    fn listing_of(job: &Job, words: &[&str]) -> String {
+        let words: Vec<String> = words.iter().map(|word| word.to_string()).collect();
+        let output = explore_job(job, &options(&words).unwrap()).unwrap();
+        String::from_utf8(output.out).unwrap()
+    }
+
+    #[test]
+    fn job_a_has_document_01s_listing() {
+        assert_eq!(listing_of(&job_a(), &[]), JOB_A_LISTING);
+        let job = job::read(&job_a().to_bytes()).unwrap();
+        assert_eq!(listing_of(&job, &[]), JOB_A_LISTING);
+    }
+
+    #[test]
+    fn pages_of_job_a() {
+        let lines: Vec<&str> = JOB_A_LISTING.lines().collect();
+        let page = |first, paths| listing_of(&job_a(), &["--first", first, "--paths", paths]);
+        assert_eq!(page("0", "1"), format!("paths 1 more 1\n{}\n", lines[1]));
+        assert_eq!(page("1", "1"), format!("paths 1 more 0\n{}\n", lines[2]));
+        assert_eq!(page("2", "1"), "paths 0 more 0\n");
+        assert_eq!(page("0", "0"), "turned away 7\n");
+        assert_eq!(page("4294967296", "1"), "turned away 8\n");
+    }
+
+    #[test]
+    fn all_registers_of_job_a() {
+        let listing = listing_of(&job_a(), &["--registers"]);
+        assert_eq!(listing.lines().count(), 1 + 2 * 32);
+        assert!(listing.contains("    x5  t0  10..255\n    x6  t1  10..10\n"), "{listing}");
+        let paths: Vec<&str> = listing.lines().filter(|line| !line.starts_with(' ')).collect();
+        assert_eq!(paths.join("\n") + "\n", JOB_A_LISTING);
+    }
+
+    /// Each flipped bit with a new check, through the library: a refusal or a listing.
+    #[test]
+    fn damaged_jobs_are_listed_or_refused() {
+        let mut listed = 0;
+        for bit in 0..64 * 63 * 2 {
+            let mut bytes = job_a().to_bytes();
+            let block = &mut bytes[bit / (64 * 63) * 512..][..512];
+            block[bit / 8 % 504] ^= 1 << (bit % 8);
+            let words =
+                block[..504].chunks(8).map(|word| u64::from_le_bytes(word.try_into().unwrap()));
+            let sum = blocks::check(&words.collect::<Vec<u64>>());
+            block[504..].copy_from_slice(&sum.to_le_bytes());
+            if let Ok(job) = job::read(&bytes) {
+                assert!(listing_of(&job, &["--paths", "3"]).starts_with("paths "));
+                listed += 1;
+            }
+        }
+        assert!(listed > 300, "{listed}");
+    }
+
+    #[test]
+    fn wrong_arguments_get_the_usage() {
+        let run_words = |words: &[&str]| {
+            run(&words.iter().map(|word| word.to_string()).collect::<Vec<String>>())
+        };
+        for words in [&[][..], &["make"], &["make", "a", "b"], &["explore"], &["list", "a"]] {
+            assert_eq!(run_words(words).err().as_deref(), Some(USAGE));
+        }
+        for words in
+            [&["--first"][..], &["--first", "x"], &["--paths", "65537"], &["--report"], &["-x"]]
+        {
+            assert!(run_words(&[&["explore", "none.job"], words].concat()).is_err());
+        }
+        assert!(run_words(&["show", "no/such/file.job"]).is_err());
+    }
+}

@@ -1,0 +1,242 @@
+//! A report's records of 1,024 bytes, and the lines of the listing.
+
+use crate::blocks::{payload, Interval, BLOCK_BYTES};
+use crate::instruction::register_name;
+use crate::job::MOST_INPUTS;
+use crate::numbers::{kind_text, reason_text};
+use std::fmt::Write;
+
+pub const PATH_BYTES: usize = 2 * BLOCK_BYTES;
+const EXITED: u64 = 1;
+const NOT_FOLLOWED: u64 = 8;
+
+/// A path as its two blocks give it; register 0 is 0..0.
+#[derive(Clone, Debug, PartialEq, Eq)]
+pub struct Record {
+    pub number: u64,
+    pub kind: u64,
+    pub pc: u64,
+    pub steps: u64,
+    pub intervals: Vec<Interval>,
+    pub exit: Interval,
+    pub reason: u64,
+    pub reads: u64,
+    pub registers: [Interval; 32],
+}
+
+/// Which registers are shown with a path.
+#[derive(Clone, Copy, Debug, PartialEq, Eq)]
+pub enum Shown {
+    None,
+    NotZero,
+    All,
+}
+
+// ---------------------------------------------------------------------------------------------
+// Reading.
+
+/// The path in 1,024 bytes, or what is wrong with them.
+pub fn read(bytes: &[u8]) -> Result<Record, String> {
+    let (first, second) = bytes.split_at(BLOCK_BYTES.min(bytes.len()));
+    let first = payload(first).ok_or("the first block's check does not agree")?;
+    let second = payload(second).ok_or("the second block's check does not agree")?;
+    if first[0] != second[0] {
+        return Err(format!("its blocks belong to paths {} and {}", first[0], second[0]));
+    }
+    if first[4] > MOST_INPUTS as u64 {
+        return Err(format!("it has {} inputs", first[4]));
+    }
+    if !(1..=9).contains(&first[1]) {
+        return Err(format!("it has kind {}", first[1]));
+    }
+    Ok(record(&first, &second))
+}
+
+fn record(first: &[u64], second: &[u64]) -> Record {
+    let mut registers = [(0, 0); 32];
+    for (register, value) in registers.iter_mut().enumerate().skip(1) {
+        *value = (second[2 * register - 1], second[2 * register]);
+    }
+    Record {
+        number: first[0],
+        kind: first[1],
+        pc: first[2],
+        steps: first[3],
+        intervals: (0..first[4] as usize).map(|k| (first[5 + k], first[13 + k])).collect(),
+        exit: (first[21], first[22]),
+        reason: first[23],
+        reads: first[24],
+        registers,
+    }
+}
+
+// ---------------------------------------------------------------------------------------------
+// Writing.
+
+/// The listing's line of a path.
+pub fn line(record: &Record) -> String {
+    let Record { number, kind, pc, steps, .. } = record;
+    let mut line = format!("path {number} end {kind} at {pc} steps {steps}");
+    for (low, high) in &record.intervals {
+        let _ = write!(line, " in {low}..{high}");
+    }
+    if *kind == EXITED {
+        let _ = write!(line, " exit {}..{}", record.exit.0, record.exit.1);
+    }
+    if *kind == NOT_FOLLOWED {
+        let _ = write!(line, " reason {}", record.reason);
+    }
+    line + "\n"
+}
+
+/// A line for each register that is shown.
+pub fn register_lines(record: &Record, shown: Shown) -> String {
+    let wanted = |value| shown == Shown::All || shown == Shown::NotZero && value != (0, 0);
+    let registers = record.registers.iter().enumerate().skip(1);
+    registers
+        .filter(|(_, value)| wanted(**value))
+        .map(|(register, (low, high))| {
+            format!("    x{register:<3}{:<4}{low}..{high}\n", register_name(register as u32))
+        })
+        .collect()
+}
+
+fn end_line(record: &Record) -> String {
+    let reason = match record.kind {
+        NOT_FOLLOWED => format!(": {}", reason_text(record.reason)),
+        _ => String::new(),
+    };
+    format!("    {}{reason}; inputs read {}\n", kind_text(record.kind), record.reads)
+}
+
+/// The listing of a page that the library has written.
+pub fn listing(page: &[u8], more: bool, shown: Shown) -> Result<String, String> {
+    let mut text = format!("paths {} more {}\n", page.len() / PATH_BYTES, more as u64);
+    for bytes in page.chunks(PATH_BYTES) {
+        let record = read(bytes)?;
+        text += &(line(&record) + &register_lines(&record, shown));
+    }
+    Ok(text)
+}
+
+/// A report from anywhere: its paths in words, and how many records are not a path.
+pub fn report_text(bytes: &[u8]) -> Result<(String, usize), String> {
+    if bytes.is_empty() || bytes.len() % PATH_BYTES != 0 {
+        return Err(format!("{} bytes are not whole records of {PATH_BYTES}", bytes.len()));
+    }
+    let (mut text, mut empty, mut faults) = (String::new(), 0, 0);
+    for (place, bytes) in bytes.chunks(PATH_BYTES).enumerate() {
+        match read(bytes) {
+            Ok(record) => text += &record_text(&record),
+            Err(_) if bytes.iter().all(|&byte| byte == 0) => empty += 1,
+            Err(fault) => {
+                faults += 1;
+                text += &format!("record {place} is no path: {fault}\n");
+            }
+        }
+    }
+    if empty > 0 {
+        text += &format!("records with no path written: {empty}\n");
+    }
+    Ok((text, faults))
+}
+
+fn record_text(record: &Record) -> String {
+    line(record) + &end_line(record) + &register_lines(record, Shown::NotZero)
+}
+
+#[cfg(test)]
+mod tests {
+    use super::*;
+    use crate::blocks::to_bytes;
+    use crate::random::Random;
+
+    fn bytes_of(first: &[(usize, u64)], second: &[(usize, u64)]) -> Vec<u8> {
+        let mut words = [0; 126];
+        first.iter().for_each(|&(place, word)| words[place] = word);
+        second.iter().for_each(|&(place, word)| words[63 + place] = word);
+        to_bytes(&words)
+    }
+
+    /// Path 1 of Job A, every word put in its place by hand.
+    fn path_of_a() -> Vec<u8> {
+        let first = [(0, 1), (1, 1), (2, 28), (3, 7), (4, 1), (5, 10), (13, 255), (24, 1)];
+        let second = [(0, 1), (3, 4096), (4, 4096), (9, 10), (10, 255), (62, 7)];
+        bytes_of(&first, &second)
+    }
+
+    #[test]
+    fn a_path_of_job_a() {
+        let record = read(&path_of_a()).unwrap();
+        assert_eq!(line(&record), "path 1 end 1 at 28 steps 7 in 10..255 exit 0..0\n");
+        let registers = "    x2  sp  4096..4096\n    x5  t0  10..255\n    x31 t6  0..7\n";
+        assert_eq!(register_lines(&record, Shown::NotZero), registers);
+        assert_eq!(register_lines(&record, Shown::All).lines().count(), 31);
+        assert_eq!(register_lines(&record, Shown::None), "");
+    }
+
+    #[test]
+    fn every_word_has_its_place() {
+        let mut first: Vec<(usize, u64)> =
+            (0..25).map(|place| (place, 100 + place as u64)).collect();
+        (first[1].1, first[4].1) = (1, 8);
+        let second: Vec<(usize, u64)> = (0..63).map(|place| (place, 100 + place as u64)).collect();
+        let record = read(&bytes_of(&first, &second)).unwrap();
+        let Record { number, kind, pc, steps, reason, reads, .. } = record;
+        assert_eq!([number, kind, pc, steps, reason, reads], [100, 1, 102, 103, 123, 124]);
+        assert_eq!(record.exit, (121, 122));
+        let intervals: Vec<Interval> = (105..113).map(|low| (low, low + 8)).collect();
+        assert_eq!(record.intervals, intervals);
+        assert_eq!(record.registers[..2], [(0, 0), (101, 102)]);
+        assert_eq!(record.registers[31], (161, 162));
+    }
+
+    #[test]
+    fn kind_8_has_a_reason_and_no_exit() {
+        let first = [(1, 8), (2, 20), (3, 5), (4, 2), (5, 1), (13, 2), (6, 3), (14, 4), (23, 2)];
+        let record = read(&bytes_of(&first, &[])).unwrap();
+        assert_eq!(line(&record), "path 0 end 8 at 20 steps 5 in 1..2 in 3..4 reason 2\n");
+    }
+
+    #[test]
+    fn records_that_are_no_path() {
+        let fault = |first, second| read(&bytes_of(first, second)).unwrap_err();
+        assert_eq!(fault(&[(0, 1), (1, 1)], &[(0, 2)]), "its blocks belong to paths 1 and 2");
+        assert_eq!(fault(&[(1, 1), (4, 9)], &[]), "it has 9 inputs");
+        assert_eq!(fault(&[(1, 10)], &[]), "it has kind 10");
+        assert!(read(&[0; PATH_BYTES]).is_err());
+        assert!(read(&[]).is_err());
+    }
+
+    #[test]
+    fn each_flipped_bit_is_seen() {
+        let bytes = path_of_a();
+        for bit in 0..8 * bytes.len() {
+            let mut bytes = bytes.clone();
+            bytes[bit / 8] ^= 1 << (bit % 8);
+            assert!(read(&bytes).is_err(), "bit {bit}");
+        }
+    }
+
+    #[test]
+    fn a_report_with_unwritten_and_damaged_records() {
+        let damaged = [1; PATH_BYTES];
+        let report = [&path_of_a()[..], &damaged, &[0; 2 * PATH_BYTES]].concat();
+        let (text, faults) = report_text(&report).unwrap();
+        assert_eq!(faults, 1);
+        assert!(text.starts_with("path 1 end 1 at 28"));
+        let end = "record 1 is no path: the first block's check does not agree\n\
+                   records with no path written: 2\n";
+        assert!(text.ends_with(end), "{text}");
+        assert!(report_text(&[]).is_err() && report_text(&report[1..]).is_err());
+    }
+
+    #[test]
+    fn random_bytes_are_no_paths() {
+        let mut random = Random(5);
+        for _ in 0..300 {
+            let count = random.below(40 * BLOCK_BYTES);
+            assert!(report_text(&random.bytes(count)).map_or(0, |(_, faults)| faults) <= 20);
+        }
+    }
+}

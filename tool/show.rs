@@ -1,0 +1,85 @@
+//! A job in readable form, which the assembler reads back to the same job.
+
+use crate::instruction::{decode, text, Form, Instruction, ROWS};
+use crate::job::Job;
+use std::fmt::Write;
+
+pub fn job_text(job: &Job) -> String {
+    let mut shown = format!(
+        "# code words {}, inputs {}, memory words given {}\n.limit {}\n.first {}\n",
+        job.code.len(),
+        job.intervals.len(),
+        job.memory.len(),
+        job.limit,
+        job.first
+    );
+    for (low, high) in &job.intervals {
+        let _ = writeln!(shown, ".input {low}..{high}");
+    }
+    for (place, &word) in job.code.iter().enumerate() {
+        shown += &code_line(4 * place as i64, word);
+    }
+    for (place, word) in job.memory.iter().enumerate() {
+        let _ = writeln!(shown, "{:<29}# address {}", format!(".word {word}"), 8 * place);
+    }
+    shown
+}
+
+/// The instruction, then its address, its word and where it may jump to.
+fn code_line(address: i64, word: u32) -> String {
+    let (shown, note) = match decode(word) {
+        Some(instruction) => (text(&instruction), target_text(&instruction, address)),
+        None => (format!(".code {word:#010X}"), "  no instruction".to_string()),
+    };
+    format!("    {shown:<25}# {address:>4}: {word:08X}{note}\n")
+}
+
+fn target_text(instruction: &Instruction, address: i64) -> String {
+    match ROWS[instruction.row].form {
+        Form::Branch | Form::Jump => format!("  to {}", address + instruction.imm),
+        _ => String::new(),
+    }
+}
+
+#[cfg(test)]
+mod tests {
+    use super::*;
+    use crate::random::Random;
+    use crate::source::assemble;
+
+    const OPCODES: [u32; 9] = [55, 19, 51, 3, 35, 99, 111, 103, 115];
+
+    #[test]
+    fn job_a_is_shown_with_its_addresses() {
+        let job = assemble(include_str!("../jobs/job-a.s")).unwrap();
+        let shown = job_text(&job);
+        assert!(shown.starts_with("# code words 8, inputs 1, memory words given 0\n.limit 100\n"));
+        assert!(shown.contains("\n.input 0..255\n    addi a7, zero, 63        #    0: 03F00893\n"));
+        assert!(shown.ends_with("\n    ecall                    #   28: 00000073\n"), "{shown}");
+    }
+
+    #[test]
+    fn targets_memory_and_strange_words_are_shown() {
+        let shown = job_text(&assemble(".word 7, 9\nnop\nj -4\n.code 0").unwrap());
+        assert!(shown.contains("    jal zero, -4             #    4: FFDFF06F  to 0\n"), "{shown}");
+        assert!(shown.contains("    .code 0x00000000         #    8: 00000000  no instruction\n"));
+        assert!(shown.ends_with(".word 9                      # address 8\n"), "{shown}");
+    }
+
+    #[test]
+    fn a_shown_job_assembles_to_the_same_job() {
+        let mut random = Random(6);
+        for _ in 0..200 {
+            let opcode = |random: &mut Random| OPCODES[random.below(OPCODES.len())];
+            let word = |random: &mut Random| random.next() as u32 & !0x7F | opcode(random);
+            let job = Job {
+                code: (0..1 + random.below(1024)).map(|_| word(&mut random)).collect(),
+                intervals: (0..random.below(9)).map(|_| (random.next() / 2, u64::MAX)).collect(),
+                limit: 1 + random.below(65_536) as u64,
+                first: random.next() >> 32,
+                memory: (0..random.below(513)).map(|_| random.next()).collect(),
+            };
+            assert_eq!(assemble(&job_text(&job)), Ok(job));
+        }
+    }
+}
