@@ -1,6 +1,6 @@
 /* Explores document 01's Job A page by page, with pages of one path, and prints each path.
  *
- *     gcc -std=c11 -Iinclude -o pages examples/pages.c target/staticlib/libexplorer.a */
+ *     gcc -std=c11 -Iinclude -o pages examples/pages.c target/staticlib/libmirokefa_c.a */
 
 #include <inttypes.h>
 #include <stdio.h>

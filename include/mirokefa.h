@@ -1,4 +1,4 @@
-/* The interval path explorer for RISC-U: the functions of libexplorer.a and libserving.a for C and C++.
+/* The interval path explorer for RISC-U: the functions of libmirokefa_c.a for C and C++.
  *
  * A program is explored over a box of inputs, one interval for each. The paths of the listing are
  * written to a report, a page at a time. docs/NUMBERS.md explains every number in words. */
@@ -128,7 +128,7 @@ struct mirokefa_outcome mirokefa_explore(
     uint64_t first);
 
 /*
- * The server's call (libserving.a): a job in blocks of 512 bytes in, a page of its paths out. It explores with a table and a
+ * The server's call: a job in blocks of 512 bytes in, a page of its paths out. It explores with a table and a
  * memory of its own. refused is 9 if the job is not 1 to 19 whole blocks, 10 if a check does not agree, 11 if a part is out of
  * its form, or the number of the question that the job, or the report (7), answers with no; then nothing lent is changed.
  */

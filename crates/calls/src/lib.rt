@@ -56,7 +56,7 @@ pub fn refusal_number(r: Refusal) -> u64
 }
 
 // 1 for yes, 0 for no.
-fn yes_number(yes: bool) -> u64
+pub fn yes_number(yes: bool) -> u64
     ensures { λ n. ⌜ n ≡ yesNumber yes ⌝ }
 {
     if yes { 1 } else { 0 }

@@ -1,13 +1,10 @@
-// The call, and the same call at the C border.
+// The call.
 use crate::exploring::accepted;
 use calls::Answer;
 use calls::Door;
-use calls::Outcome;
 use calls::questions::ask;
-use calls::reply;
 ghost use mathlib.Core.Path.{_≡_};
-ghost use Rattle.calls.specs.Call.{callOf, left, called};
-ghost use Rattle.calls.specs.Door.{replyOf};
+ghost use Rattle.calls.specs.Call.{callOf, left};
 ghost use Rattle.calls.specs.Engine.{Leaves};
 
 // Explores a job and writes a page of its paths, or refuses the call. Its contract is the contract of a call, for which proofs/Demands
@@ -28,23 +25,4 @@ pub fn explore(
         return accepted(code, memory, intervals, limit, table, report, first);
     };
     Answer::Refused(r)
-}
-
-// The same for C: each slice comes as a pointer and its length in elements, and the answer as numbers.
-#[no_mangle]
-pub extern "C" fn mirokefa_explore(
-    code: &[u32],
-    memory: &[u64],
-    intervals: &[u64],
-    limit: u64,
-    table: &mut [u64],
-    report: &mut [u8],
-    first: u64,
-) -> Outcome
-    ensures answer { λ r. ⌜ r ≡ replyOf (called (now (memory .entry)) (now (table .entry)) (callOf (now (code .entry)) (now (intervals .entry)) limit (now (report .entry)) first) .reply .answer) ⌝ }
-    ensures bytes { λ r. ⌜ now (report .exit) ≡ called (now (memory .entry)) (now (table .entry)) (callOf (now (code .entry)) (now (intervals .entry)) limit (now (report .entry)) first) .reply .report ⌝ }
-    ensures words { λ r. ⌜ now (table .exit) ≡ called (now (memory .entry)) (now (table .entry)) (callOf (now (code .entry)) (now (intervals .entry)) limit (now (report .entry)) first) .table ⌝ }
-{
-    let a = explore(code, memory, intervals, limit, table, report, first);
-    reply(a)
 }

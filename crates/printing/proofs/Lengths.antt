@@ -1,7 +1,7 @@
 -- How long the output can be, whatever the words are.
 -- Assumes nothing.
 use mathlib.Core.Path.{_≡_}
-use mathlib.Core.Bool.{Bool, cond}
+use mathlib.Core.Bool.{Bool}
 use mathlib.Core.List.{List, [], _∷_, _++_, flatMap}
 use Prim.Native.Nat.{ℕ, zero, suc, _+_, _*_, _≤_, min}
 use native.Mathlib.Omega.{arith}
@@ -11,6 +11,7 @@ use Rattle.boxes.specs.Boxes.{from}
 use Rattle.boxes.proofs.Lists.{by-test}
 use Rattle.blocks.specs.Block.{wordAt}
 use Rattle.blocks.specs.Record.{room, pathBytes}
+use Rattle.calls.specs.Door.{yesNumber}
 use Rattle.printing.specs.Printed.{wordDigits, ascii, field, range, turnedAway, firstLine, lineWith, inputAt, inputs, ending, line}
 use Rattle.printing.specs.Printed.{lineAt, lines, listingText, longestRefusal, longestLine, longest}
 use Rattle.printing.proofs.Digits.{digits-length}
@@ -30,7 +31,7 @@ refusal-length n = rw length-append (omega (arith, field-length (ascii "turned a
 first-length : (count : ℕ) (more : Bool) → length (firstLine count more) ≤ 53
 unfolding firstLine
 first-length count more =
-    simp length-append (omega (arith, field-length (ascii "paths ") count, field-length (ascii " more ") (cond more 1 0)))
+    simp length-append (omega (arith, field-length (ascii "paths ") count, field-length (ascii " more ") (yesNumber more)))
 
 inputs-length : (bytes : List ℕ) (i n : ℕ) → length (flatMap (inputAt bytes) (from i n)) ≤ 46 * n
 unfolding flatMap from inputAt

@@ -9,6 +9,7 @@ use lib.ListN.{drop}
 use Rattle.boxes.specs.Boxes.{from}
 use Rattle.blocks.specs.Block.{wordAt}
 use Rattle.blocks.specs.Record.{room, pathBytes}
+use Rattle.calls.specs.Door.{yesNumber}
 
 -- A word in base ten, in ASCII, the most significant digit first.
 
@@ -42,9 +43,8 @@ range name low high = field name low ++ field (ascii "..") high
 unfoldable pub turnedAway : ℕ → List ℕ
 turnedAway n = field (ascii "turned away ") n ++ ascii "\n"
 
--- `more` is 1 for yes
 unfoldable pub firstLine : ℕ → Bool → List ℕ
-firstLine count more = field (ascii "paths ") count ++ (field (ascii " more ") (cond more 1 0) ++ ascii "\n")
+firstLine count more = field (ascii "paths ") count ++ (field (ascii " more ") (yesNumber more) ++ ascii "\n")
 
 -- a path's line: number, kind, pc and steps, then what is said of the inputs and of the end
 unfoldable pub lineWith : ℕ → ℕ → ℕ → ℕ → List ℕ → List ℕ → List ℕ

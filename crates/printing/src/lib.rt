@@ -4,23 +4,16 @@
 use crate::lines::put_lines;
 use crate::writer::put_field;
 use crate::writer::put_text;
+use calls::yes_number;
 ghost use mathlib.Core.Path.{_≡_};
 ghost use Prim.Native.Nat.{_*_, _≤_};
 ghost use lib.ListN.{length};
 ghost use Rattle.blocks.specs.Record.{pathBytes};
 ghost use Rattle.printing.specs.Printed.{turnedAway, listingText};
 ghost use Rattle.printing.specs.Sheet.{fitted, fitting};
-ghost use mathlib.Core.Bool.{cond};
 
 pub mod lines;
 pub mod writer;
-
-// 1 for yes, 0 for no.
-fn yes_number(yes: bool) -> u64
-    ensures { λ r. ⌜ r ≡ cond yes 1 0 ⌝ }
-{
-    if yes { 1 } else { 0 }
-}
 
 // Writes `turned away N` at the start of `out`, as far as it fits, and answers how many bytes it wrote.
 pub fn print_refusal(number: u64, out: &mut [u8]) -> usize

@@ -5,6 +5,7 @@ use blocks::ROOM;
 use calls::Answer;
 use calls::Outcome;
 use calls::questions::CODE_WORDS;
+use calls::yes_number;
 use explorer::border::explore;
 use jobs::Counts;
 use jobs::JobAnswer;
@@ -18,7 +19,6 @@ ghost use mathlib.Core.Path.{_≡_};
 ghost use Prim.Native.Nat.{_*_, _≤_};
 ghost use lib.ListN.{length, take};
 ghost use Rattle.calls.specs.Call.{callOf, replyTo};
-ghost use Rattle.calls.specs.Door.{yesNumber};
 ghost use Rattle.printing.specs.Sheet.{fitted, fitting};
 ghost use Rattle.serving.specs.Response.{responseTo};
 ghost use Rattle.serving.specs.Served.{tableWords, reply, servedAs, servedLeft, served, outcomeOf};
@@ -83,15 +83,8 @@ pub fn serve(job: &[u8], report: &mut [u8]) -> Served
     }
 }
 
-// 1 for yes, 0 for no.
-fn yes_number(yes: bool) -> u64
-    ensures { λ n. ⌜ n ≡ yesNumber yes ⌝ }
-{
-    if yes { 1 } else { 0 }
-}
-
 // The answer in numbers.
-fn outcome(a: Served) -> Outcome
+pub fn outcome(a: Served) -> Outcome
     ensures { λ r. ⌜ r ≡ outcomeOf a ⌝ }
 {
     match a {
@@ -106,16 +99,6 @@ fn outcome(a: Served) -> Outcome
             more: yes_number(more),
         },
     }
-}
-
-// The server's call for C: job blocks in, a report out.
-#[no_mangle]
-pub extern "C" fn mirokefa_serve(job: &[u8], report: &mut [u8]) -> Outcome
-    ensures answer { λ r. ⌜ r ≡ outcomeOf (served (now (job .entry)) (now (report .entry)) .answer) ⌝ }
-    ensures bytes { λ r. ⌜ now (report .exit) ≡ served (now (job .entry)) (now (report .entry)) .report ⌝ }
-{
-    let a = serve(job, report);
-    outcome(a)
 }
 
 // The program's answer to a job, written at the start of `out`, as far as it fits; how many bytes it wrote.

@@ -2,8 +2,8 @@ use Rattle.calls.specs.Door.{replyOf}
 use Rattle.calls.specs.Call.{Left}
 use mathlib.Core.Path.{ap, _∙_}
 use borrow.Author.Needs.{needs}
-use Rattle.explorer.proofs.border.mirokefa_explore.Statement.{statement}
-use Rattle.explorer.proofs.border.mirokefa_explore.Tie as tie
+use Rattle.mirokefa_c.proofs.mirokefa_explore.Statement.{statement}
+use Rattle.mirokefa_c.proofs.mirokefa_explore.Tie as tie
 
 explore-requires : tie.Need-explore-requires
 explore-requires c κs = search needs

@@ -1,8 +1,8 @@
 use Rattle.serving.specs.Served.{ServedLeft, outcomeOf}
 use mathlib.Core.Path.{_≡_, refl, sym, ap, _∙_}
 use borrow.Author.Needs.{needs}
-use Rattle.serving.proofs.mirokefa_serve.Statement.{statement}
-use Rattle.serving.proofs.mirokefa_serve.Tie as tie
+use Rattle.mirokefa_c.proofs.mirokefa_serve.Statement.{statement}
+use Rattle.mirokefa_c.proofs.mirokefa_serve.Tie as tie
 
 serve-requires : tie.Need-serve-requires
 serve-requires c κs = search needs
