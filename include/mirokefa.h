@@ -30,8 +30,9 @@ extern "C" {
 
 /* ---- Refusals ---- */
 
-/* The questions are asked in this order, and the first no decides. A refused call reports no path
- * and changes nothing lent. */
+/* The first question with the answer no decides. mirokefa_explore asks 1 to 8 in this order;
+ * mirokefa_serve asks 9, 10, 1, 2, 3, 4, 6, 8 and 11 of the job, and then 7. A refused call reports
+ * no path and changes nothing lent. */
 enum mirokefa_refusal {
     MIROKEFA_ACCEPTED = 0,
     MIROKEFA_REFUSED_CODE = 1,      /* the code is not 1 to 1,024 words */
@@ -41,7 +42,10 @@ enum mirokefa_refusal {
     MIROKEFA_REFUSED_TABLE = 5,     /* the table has fewer than 8 words */
     MIROKEFA_REFUSED_MEMORY = 6,    /* memory is not exactly 512 words */
     MIROKEFA_REFUSED_REPORT = 7,    /* the report is empty or not a multiple of 1,024 bytes */
-    MIROKEFA_REFUSED_FIRST = 8      /* the first path wanted is not below 2^32 */
+    MIROKEFA_REFUSED_FIRST = 8,     /* the first path wanted is not below 2^32 */
+    MIROKEFA_REFUSED_BLOCKS = 9,    /* the job is not 1 to 19 whole blocks */
+    MIROKEFA_REFUSED_CHECK = 10,    /* the check of a block of the job does not agree */
+    MIROKEFA_REFUSED_FORM = 11      /* word 0 of the job is not 1, its blocks are too few or too many, or an unused word is not 0 */
 };
 
 /* ---- How a path ends ---- */
@@ -127,11 +131,11 @@ struct mirokefa_outcome mirokefa_explore(
     uint8_t *report, size_t report_bytes,
     uint64_t first);
 
-/*
- * The server's call: a job in blocks of 512 bytes in, a page of its paths out. It explores with a table and a
- * memory of its own. refused is 9 if the job is not 1 to 19 whole blocks, 10 if a check does not agree, 11 if a part is out of
- * its form, or the number of the question that the job, or the report (7), answers with no; then nothing lent is changed.
- */
+/* The server's call: a job in blocks of 512 bytes in, a page of its paths out. The job's header gives
+ * limit and first path; table and memory are the call's own.
+ *
+ * job        the header block, the code blocks, the memory blocks. Read only.
+ * report     as for mirokefa_explore. It is written, and does not overlap the job. */
 struct mirokefa_outcome mirokefa_serve(const uint8_t *job, size_t job_bytes, uint8_t *report, size_t report_bytes);
 
 #ifdef __cplusplus

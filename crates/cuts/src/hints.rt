@@ -8,6 +8,7 @@ use riscu::words::product;
 use riscu::words::quotient;
 use riscu::words::sub;
 use riscu::words::widen;
+ghost use Prim.Native.Nat.{_<_, _^_};
 
 // The last multiple of c that the greater of two values has passed.
 fn top_multiple(c: u64, low: u64, high: u64) -> u64 {
@@ -91,8 +92,10 @@ fn branch_hint(a: u64, a_high: u64, b: u64, b_high: u64, lo: u64, hi: u64) -> u6
     }
 }
 
-// A guess at the last value of the input, from lo to hi, that has the class of lo at an instruction.
-pub fn hint(i: Instruction, low: &Registers, high: &Registers, lo: u64, hi: u64) -> u64 {
+// A guess at the last value of the input, from lo to hi, that has the class of lo at an instruction. Which word it is, is free.
+pub fn hint(i: Instruction, low: &Registers, high: &Registers, lo: u64, hi: u64) -> u64
+    ensures free { λ r. ⌜ r < 2 ^ 64 ⌝ }
+{
     match i {
         Instruction::Addi { rd, rs1, imm } => {
             let b = widen(imm);

@@ -82,7 +82,7 @@ fn sorted(op: Operation, rd: usize, a: u64, b: u64) -> u64
     if rd == 0 { 0 } else { sort_of(op, a, b) }
 }
 
-fn addi_class(registers: &Registers, rd: usize, rs1: usize, imm: i64) -> u64
+pub fn addi_class(registers: &Registers, rd: usize, rs1: usize, imm: i64) -> u64
     ensures { λ r. ⌜ r ≡ cond (eqb rd 0) 0 (sortOf Add (getD (now (registers .entry)) rs1 0) (widen imm)) ⌝ }
 {
     let a = register(registers, rs1);
@@ -90,7 +90,13 @@ fn addi_class(registers: &Registers, rd: usize, rs1: usize, imm: i64) -> u64
     sorted(Operation::Add, rd, a, b)
 }
 
-fn operation_class(registers: &Registers, op: Operation, rd: usize, rs1: usize, rs2: usize) -> u64
+pub fn operation_class(
+    registers: &Registers,
+    op: Operation,
+    rd: usize,
+    rs1: usize,
+    rs2: usize,
+) -> u64
     ensures { λ r. ⌜ r ≡ cond (eqb rd 0) 0 (sortOf op (getD (now (registers .entry)) rs1 0) (getD (now (registers .entry)) rs2 0)) ⌝ }
 {
     let a = register(registers, rs1);
@@ -98,7 +104,7 @@ fn operation_class(registers: &Registers, op: Operation, rd: usize, rs1: usize, 
     sorted(op, rd, a, b)
 }
 
-fn branch_class(registers: &Registers, rs1: usize, rs2: usize) -> u64
+pub fn branch_class(registers: &Registers, rs1: usize, rs2: usize) -> u64
     ensures { λ r. ⌜ r ≡ comparison (getD (now (registers .entry)) rs1 0) (getD (now (registers .entry)) rs2 0) ⌝ }
 {
     let a = register(registers, rs1);

@@ -20,7 +20,7 @@ ghost use Rattle.riscu.specs.declared.Decoded.the-variants.{Row};
 ghost use Rattle.listing.specs.Ending.{writes};
 ghost use Rattle.decide.specs.Corner.{sameClass, onward, rowDecision, decision};
 
-fn one_unless_zero(rd: usize) -> usize
+pub fn one_unless_zero(rd: usize) -> usize
     ensures { λ r. ⌜ r ≡ cond (eqb rd 0) 0 1 ⌝ }
 {
     if rd == 0 { 0 } else { 1 }

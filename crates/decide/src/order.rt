@@ -105,7 +105,7 @@ fn quotients(op: Operation, low: &Registers, high: &Registers, a: usize, b: usiz
     apart(x, y)
 }
 
-fn open_points(low: &Registers, high: &Registers, a: usize, b: usize) -> Verdict
+pub fn open_points(low: &Registers, high: &Registers, a: usize, b: usize) -> Verdict
     ensures { λ r. ⌜ r ≡ verdict (operationPoints (cornerView (now (low .entry)) (now (high .entry))) Add a b) ⌝ }
 {
     if both_open(low, high, a, b) {
@@ -176,7 +176,7 @@ fn operation_points(op: Operation, low: &Registers, high: &Registers, a: usize, 
     }
 }
 
-fn register_points(
+pub fn register_points(
     op: Operation,
     rd: usize,
     low: &Registers,
@@ -202,7 +202,7 @@ fn bad_access(low: &Registers, high: &Registers, r: usize, imm: i64) -> bool
     bad_address(a)
 }
 
-fn access_points(low: &Registers, high: &Registers, r: usize, imm: i64) -> Verdict
+pub fn access_points(low: &Registers, high: &Registers, r: usize, imm: i64) -> Verdict
     ensures { λ v. ⌜ v ≡ verdict (points (cornerView (now (low .entry)) (now (high .entry))) (Ld 0 r imm)) ⌝ }
 {
     if open_at(low, high, r) {

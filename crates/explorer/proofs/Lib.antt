@@ -5,6 +5,7 @@
 --     Resuming    turns between two groups: a fork goes, or what is left of it is taken up
 --     Ending      a turn that ends the group at hand
 --     Explored    what each kind of turn keeps of the exploration, the page with it
+--     StraightOn  straight steps one after another
 --     Finished    the exploration of a call from its first group to its page
 --     Accepting   a call that passed the questions at the door
 --     Demands     the three demands, from the contract of `explore` alone
@@ -14,6 +15,7 @@ pub mod Forking
 pub mod Resuming
 pub mod Ending
 pub mod Explored
+pub mod StraightOn
 pub mod Finished
 pub mod Accepting
 pub mod Demands

@@ -13,7 +13,7 @@ use Rattle.forks.specs.Stack.{Running}
 use Rattle.forks.specs.Turn.{Position, running, Turn, Reached, turns, stateOf}
 use Rattle.forks.proofs.Table.{forks-count}
 use Rattle.boxes.proofs.TwoLists.{length-in}
-use Rattle.forks.proofs.Positions.{reached-represents, turn-represents, work-falls, depth}
+use Rattle.forks.proofs.Positions.{reached-represents, turn-represents, within-limit, work-falls, depth}
 use Rattle.corners.proofs.Enough.{weight}
 use Rattle.lockstep.specs.Together.{Pair}
 use Rattle.decide.proofs.Decisions.{Stands}
@@ -49,6 +49,9 @@ module _ {j : Job} {m : Limits} {ps : List Path} {x : Lists} {s : Standing} (h :
   -- each fork has taken an entry
   pub forks-within : s .forks ≤ s .used
   forks-within = omega (arith, depth j (forksOf x s) (groupOf x s) (represented .1 .stacked), forks-count (x .table) (s .forks))
+
+  pub steps-within : s .steps ≤ m .steps
+  steps-within = omega (arith, within-limit j (h .sound) (represented .1), h .limit)
 
   -- a turn from the group at hand
   module _ {t : Position} (d : Turn j (running ps (groupOf x s) (forksOf x s)) t) where

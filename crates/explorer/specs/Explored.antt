@@ -13,7 +13,8 @@ use Rattle.listing.specs.declared.End.{End}
 use Rattle.blocks.specs.Record.{room, pathBytes, recordOf, records}
 use Rattle.blocks.specs.Writing.{pathIn}
 use Rattle.decide.specs.declared.Limits.{Limits}
-use Rattle.explorer.specs.Held.{Lists, latest, listed, Held}
+use Rattle.lockstep.specs.Together.{Pair}
+use Rattle.explorer.specs.Held.{Lists, lists, latest, listed, Held, work}
 use Rattle.explorer.specs.declared.Standing.{Standing}
 use Rattle.explorer.specs.declared.Window.{Window}
 
@@ -59,6 +60,24 @@ pub record Explored (j : Job) (m : Limits) (w : Window) (x : Lists) (report : Li
   pub end-fits : w .end < 2 ^ 64
   pub steps-fit : m .steps < 2 ^ 64
   pub stopped : s .going ≡ false → Stopped w x s
+
+-- a later group: it is explored too, the same paths have ended, and no more is left to do
+pub record Later (j : Job) (m : Limits) (w : Window) (report : List ℕ) (x : Lists) (s : Standing) (y : Lists) (r : Standing) : Type 0 where
+  pub explored : Explored j m w y report r
+  pub going : r .going ≡ true
+  pub running : r .running ≡ true
+  pub less : work j y r ≤ work j x s
+  pub paths : r .paths ≡ s .paths
+
+-- a box and a table with the machines and tags of p
+abbrev pub placed : List ℕ → List ℕ → List ℕ → Pair → Lists
+placed ls hs table p =
+    lists ls hs table (p .low .registers) (p .low .memory) (p .high .registers) (p .high .memory) (p .tags .registers) (p .tags .memory)
+
+-- straight steps, p being the corners before and q after: whatever is explored with this code and these limits
+pub record RunsOn (code : List ℕ) (m : Limits) (s : Standing) (p : Pair) (r : Standing) (q : Pair) : Type 0 where
+  pub onto : (j : Job) (w : Window) (ls hs table report : List ℕ) → j .code ≡ code → Explored j m w (placed ls hs table p) report s
+      → s .going ≡ true → s .running ≡ true → Later j m w report (placed ls hs table p) s (placed ls hs table q) r
 
 -- where it has stopped
 abbrev pub halted : Standing → Bool → Standing

@@ -1,10 +1,11 @@
 // The exploration of a lent job: the questions at the door, the turns at the two corners of the current box, and the call itself.
-// Each turn is one move of document 01's plain listing, or takes up the next rest of the latest fork.
+// Each turn is a move of document 01's plain listing with the straight steps before it, or takes up the next rest of the latest fork.
 // What a call leaves is one equation with the definition of a call: its answer, every byte of the report, the table and memory.
 pub mod border;
 pub mod branching;
 pub mod exploring;
 pub mod pages;
+pub mod running;
 pub mod turns;
 
 use lockstep::Corners;

@@ -4,6 +4,7 @@ use crate::Window;
 use crate::branching::fork_on;
 use crate::branching::resume;
 use crate::pages::write_path;
+use crate::running::run_straight;
 use cuts::entries::top;
 use cuts::forking::set_interval;
 use decide::Decision;
@@ -149,7 +150,8 @@ fn halt(s: Standing, more: bool) -> Standing
     }
 }
 
-// A turn. Between two groups a fork with nothing left goes, and what is left of the latest one is taken up unless the page is full.
+// A turn. At a group straight steps come first, and then the whole decision is asked.
+// Between two groups a fork with nothing left goes, and what is left of the latest one is taken up unless the page is full.
 fn turn(
     code: &[u32],
     memory: &Memory,
@@ -173,6 +175,7 @@ fn turn(
     ensures { λ r. ⌜ (s .paths ≤ r .paths) × (drop (filled window r) (now (report .exit)) ≡ drop (filled window r) (now (report .entry))) ⌝ }
 {
     if s.running {
+        let to = run_straight(code, limits, low, lowmem, high, highmem, tags, cells, s);
         return group_turn(
             code,
             memory,
@@ -189,7 +192,7 @@ fn turn(
             highmem,
             tags,
             cells,
-            s,
+            to,
         );
     }
     if s.forks == 0 {

@@ -46,14 +46,14 @@ pub fn class_tag(i: Instruction, low: &Registers, high: &Registers, tags: &Regis
     }
 }
 
-fn mark_copied(tags: &mut Registers, rd: usize, rs1: usize)
+pub fn mark_copied(tags: &mut Registers, rd: usize, rs1: usize)
     ensures { λ _. ⌜ now (tags .exit) ≡ putIn rd (getD (now (tags .entry)) rs1 0) (now (tags .entry)) ⌝ }
 {
     let v = register(tags, rs1);
     put(tags, rd, v);
 }
 
-fn mark_result(
+pub fn mark_result(
     low: &Registers,
     high: &Registers,
     tags: &mut Registers,
@@ -67,7 +67,7 @@ fn mark_result(
     put(tags, rd, v);
 }
 
-fn mark_loaded(
+pub fn mark_loaded(
     low: &Registers,
     tags: &mut Registers,
     cells: &Memory,
@@ -82,7 +82,7 @@ fn mark_loaded(
     put(tags, rd, v);
 }
 
-fn mark_stored(
+pub fn mark_stored(
     low: &Registers,
     tags: &Registers,
     cells: &mut Memory,

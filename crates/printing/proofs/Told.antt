@@ -1,13 +1,13 @@
 -- The lines of a report that tells some paths are what document 01 shows of them.
 -- Assumes nothing.
-use mathlib.Core.Path.{_≡_, refl, sym, ap, _∙_}
+use mathlib.Core.Path.{_≡_, refl, ap, _∙_}
 use mathlib.Core.Bool.{Bool, cond}
 use mathlib.Core.List.{List, [], _∷_, _++_, append-assoc, flatMap, List·Memᴰ·head as here, List·Memᴰ·tail as there}
 use Prim.Native.Nat.{ℕ, zero, suc, _+_, _*_, _<_, _≤_, min}
 use native.Mathlib.Omega.{arith}
 use native.Mathlib.Nat.{add-zero, zero-add}
 use lib.Dec.{eqb}
-use lib.ListN.{length, drop}
+use lib.ListN.{length}
 use lib.Seq.{drop-append-add}
 use Rattle.boxes.specs.Boxes.{Box, Interval, at, from, lows, highs}
 use Rattle.boxes.proofs.Lists.{_∈_}
@@ -15,12 +15,12 @@ use Rattle.listing.specs.Listing.{Path}
 use Rattle.listing.specs.Numbers.{kindNumber, reasonWord}
 use Rattle.listing.specs.declared.End.{End}
 use Rattle.listing.specs.declared.End.the-variants.{Exit, DivisionByZero, BadPc, BadWord, BadAddress, BadCall, StepLimit, NotFollowed, TraceFull}
-use Rattle.blocks.specs.Block.{wordBytes, wordAt}
+use Rattle.blocks.specs.Block.{wordAt}
 use Rattle.blocks.specs.Record.{room, pathBytes, registerOf, exitWord, recordOf, records}
 use Rattle.blocks.specs.Reading.{Tells}
 use Rattle.blocks.proofs.Bytes.{word-left}
 use Rattle.blocks.proofs.Reading.{Fits, record-length, record-tells}
-use Rattle.printing.specs.Printed.{ascii, field, range, lineWith, inputAt, inputs, ending, line, lineAt, lines, listingText}
+use Rattle.printing.specs.Printed.{ascii, field, range, inputAt, inputs, ending, line, lineAt, lines, listingText}
 use Rattle.printing.specs.Shown.{inputOf, endingOf, lineOf, linesOf, listingOf}
 
 -- the words of the inputs from k on

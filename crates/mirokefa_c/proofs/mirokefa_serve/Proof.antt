@@ -1,5 +1,5 @@
 use Rattle.serving.specs.Served.{ServedLeft, outcomeOf}
-use mathlib.Core.Path.{_≡_, refl, sym, ap, _∙_}
+use mathlib.Core.Path.{ap, _∙_}
 use borrow.Author.Needs.{needs}
 use Rattle.mirokefa_c.proofs.mirokefa_serve.Statement.{statement}
 use Rattle.mirokefa_c.proofs.mirokefa_serve.Tie as tie

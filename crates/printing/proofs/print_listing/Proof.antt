@@ -2,7 +2,6 @@ use Rattle.printing.proofs.Sheets.{then, write-all}
 use Rattle.printing.specs.Sheet.{sheet}
 use Rattle.printing.specs.Printed.{firstLine, listingText}
 use denote.Ref.{now}
-use mathlib.Core.Path.{_∙_}
 use borrow.Author.Needs.{needs}
 use Rattle.printing.proofs.print_listing.Statement.{statement}
 use Rattle.printing.proofs.print_listing.Tie as tie

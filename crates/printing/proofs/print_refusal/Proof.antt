@@ -1,4 +1,3 @@
-use mathlib.Core.Path.{_∙_}
 use denote.Ref.{now}
 use Rattle.printing.proofs.Sheets.{then, write-all}
 use Rattle.printing.specs.Sheet.{sheet}

@@ -1,5 +1,6 @@
 use Rattle.explorer.proofs.Explored.{explored-moved, explored-halted, work-halted, explored-dropped}
 use Rattle.explorer.proofs.Resuming.{top-inside, top-room}
+use Rattle.explorer.proofs.Stands.{steps-within}
 use Rattle.cuts.specs.Entries.{forkHeld}
 use Rattle.forks.specs.Stack.{Fork}
 use mathlib.Core.Bool.{true, false}
@@ -10,8 +11,14 @@ use borrow.Author.Needs.{needs}
 use Rattle.explorer.proofs.turns.turn.Statement.{statement}
 use Rattle.explorer.proofs.turns.turn.Tie as tie
 
+run-straight-requires : tie.Need-run-straight-requires
+run-straight-requires c κs = steps-within (c .before .before .before .before .before .before .before .before .before .before .before .before .before .pre .0 .held) (c .before .before .before .before .before .before .if1 .taken)
+
 group-turn-requires : tie.Need-group-turn-requires
-group-turn-requires c κs = search needs
+group-turn-requires c κs =
+    let b = c .before .before .before .before .before .before .before .before .before .before in
+    let k = b .run-straight .ensures .onto _ _ _ _ _ _ refl (b .before .before .before .before .before .before .before .before .before .before .before .before .before .before .pre .0) (b .before .before .before .before .before .before .before .before .before .before .before .before .before .before .pre .1) (b .before .before .before .before .before .before .before .if1 .taken) in
+    ((k .explored, k .going), k .running)
 
 same-length : tie.Need-same-length
 same-length c = search needs
@@ -26,7 +33,11 @@ same-length-4 : tie.Need-same-length-4
 same-length-4 c = search needs
 
 returns : tie.Need-returns
-returns c = search needs
+returns c =
+    let b = c .before .before .before .before .before .before .before .before .before .before .before .before .before .before .before .before .before .before .before in
+    let k = b .run-straight .ensures .onto _ _ _ _ _ _ refl (b .before .before .before .before .before .before .before .before .before .before .before .before .before .before .pre .0) (b .before .before .before .before .before .before .before .before .before .before .before .before .before .before .pre .1) (b .before .before .before .before .before .before .before .if1 .taken) in
+    let e = c .before .before .before .before .before .before .before .before .group-turn .ensures in
+    ((e .0 .0, omega (arith, e .0 .1, k .less)), (omega (arith, e .1 .0, k .paths), e .1 .1))
 
 halt-requires : tie.Need-halt-requires
 halt-requires c κs = search needs
@@ -83,6 +94,7 @@ pub turn-spec : {M : Type 1} → statement M
 turn-spec =
     tie.close
     (tie.spec
+    run-straight-requires
     group-turn-requires
     same-length
     same-length-2

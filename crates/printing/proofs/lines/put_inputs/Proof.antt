@@ -1,5 +1,4 @@
 use native.Mathlib.Nat.{sub-zero}
-use mathlib.Core.Path.{sym}
 use Rattle.printing.proofs.Sheets.{part-turn, part-done}
 use Rattle.printing.specs.Sheet.{sheet, write}
 use Rattle.printing.specs.Printed.{inputAt, inputs}

@@ -4,7 +4,6 @@ use Rattle.printing.specs.Printed.{lineAt, lines}
 use Rattle.boxes.specs.Boxes.{from}
 use denote.Ref.{now}
 use lib.ListN.{length}
-use borrow.Author.Needs.{needs}
 use native.Mathlib.Omega.{arith}
 use native.Mathlib.Nat.{sub-zero}
 use Prim.Native.Nat.{zero-le, _-_, _≤_}

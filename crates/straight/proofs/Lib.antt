@@ -1,0 +1,2 @@
+-- A straight step from what its tests found.
+pub mod Taking

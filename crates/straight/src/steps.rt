@@ -1,0 +1,39 @@
+// The straight step from the code: the first three points of the ending order, and then the row.
+use crate::Straight;
+use crate::rows::straight_row;
+use decide::Limits;
+use decide::Used;
+use decide::group::room;
+use lockstep::Corners;
+use riscu::Decoded;
+use riscu::plain::Memory;
+use riscu::plain::Registers;
+use riscu::plain::fetch;
+ghost use Rattle.straight.specs.Stepped.{DecidedStep};
+
+// Takes the next step, where it is straight and its row is one of the usual ones.
+pub fn straight_step(
+    code: &[u32],
+    limits: Limits,
+    used: Used,
+    low: &mut Registers,
+    lowmem: &mut Memory,
+    high: &mut Registers,
+    highmem: &mut Memory,
+    tags: &mut Registers,
+    cells: &mut Memory,
+    at: Corners,
+) -> Straight
+    ensures { λ r. ⌜ DecidedStep (now (code .entry)) limits used at (now (low .entry)) (now (lowmem .entry)) (now (high .entry)) (now (highmem .entry)) (now (tags .entry)) (now (cells .entry)) (now (low .exit)) (now (lowmem .exit)) (now (high .exit)) (now (highmem .exit)) (now (tags .exit)) (now (cells .exit)) r ⌝ }
+{
+    if used.steps == limits.steps {
+        return Straight::Left;
+    }
+    let l = at.low;
+    let d = fetch(code, l.pc);
+    let Decoded::Row(i) = d else {
+        return Straight::Left;
+    };
+    let entries = room(limits, used);
+    straight_row(i, entries, low, lowmem, high, highmem, tags, cells, at)
+}
