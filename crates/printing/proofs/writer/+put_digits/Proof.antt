@@ -1,12 +1,12 @@
 -- The proof of the cycle of calls {put_digits}. The measure is the number: its tenth is smaller.
 -- Assumes nothing.
-use mathlib.Core.Path.{_∙_}
+use mathlib.Core.Path.{_≡_, _∙_}
 use native.Mathlib.Omega.{arith}
 use borrow.Author.Needs.{needs}
 use denote.Ref.{now}
 use Rattle.printing.specs.Sheet.{sheet}
 use Rattle.printing.proofs.Digits.{last-digit, only-digit}
-use Prim.Native.Nat.{ℕ}
+use Prim.Native.Nat.{ℕ, _<_}
 use borrow.Fn.Kinds.{In}
 use borrow.Fn.PlainCycle.{Measures, is, falls, and}
 use Rattle.printing.proofs.writer.put_digits.Reads as put-digits
