@@ -3,11 +3,11 @@ use Prim.Native.Nat.{ℕ}
 use mathlib.Core.List.{List}
 use mathlib.Core.Option.{Option, none, some}
 use Rattle.calls.specs.Call.{Call, callOf, Reply, replyTo}
-use Rattle.calls.specs.Door.{yesNumber}
+use Rattle.calls.specs.Door.{replyOf}
 use Rattle.calls.specs.declared.Answer.{Answer}
 use Rattle.calls.specs.declared.Answer.the-variants as answer
 use Rattle.calls.specs.declared.Outcome.{Outcome}
-use Rattle.jobs.specs.Job.{JobRead, jobRead, jobDoor, jobNumber}
+use Rattle.jobs.specs.Job.{jobRead, jobDoor, jobNumber}
 use Rattle.jobs.specs.declared.JobRefusal.{JobRefusal}
 use Rattle.jobs.specs.declared.JobRefusal.the-variants as job
 use Rattle.serving.specs.declared.Served.{Served}
@@ -50,4 +50,4 @@ served bytes report = servedBy bytes report (jobDoor bytes)
 -- the answer in numbers
 unfoldable pub outcomeOf : Served → Outcome
 outcomeOf (Refused r) = record { refused = jobNumber r; count = 0; more = 0 }
-outcomeOf (Listed n m) = record { refused = 0; count = n; more = yesNumber m }
+outcomeOf (Listed n m) = replyOf (answer.Page n m)

@@ -1,11 +1,11 @@
 // The course server's call and the program's answer, on bytes: job blocks in, a report or its text out.
 // Both explore the job with a table of their own; the server's call asks the program's questions and then question 7.
-// What a reader must believe stands in specs/: what a served call leaves, and the program's text.
+// What a reader must believe stands in specs/: what a served call leaves, its part in the demands, and the program's text.
 use blocks::ROOM;
 use calls::Answer;
 use calls::Outcome;
 use calls::questions::CODE_WORDS;
-use calls::yes_number;
+use calls::reply;
 use explorer::border::explore;
 use jobs::Counts;
 use jobs::JobAnswer;
@@ -93,17 +93,15 @@ pub fn outcome(a: Served) -> Outcome
             count: 0,
             more: 0,
         },
-        Served::Listed { count, more } => Outcome {
-            refused: 0,
-            count,
-            more: yes_number(more),
-        },
+        Served::Listed { count, more } => reply(Answer::Page { count, more }),
     }
 }
 
 // The program's answer to a job, written at the start of `out`, as far as it fits; how many bytes it wrote.
 pub fn respond(job: &[u8], report: &mut [u8], out: &mut [u8]) -> usize
-    ensures { λ r. ⌜ (now (out .exit) ≡ fitted (responseTo (served (now (job .entry)) (now (report .entry)))) (now (out .entry))) × (r ≡ fitting (responseTo (served (now (job .entry)) (now (report .entry)))) (now (out .entry))) ⌝ }
+    ensures text { λ r. ⌜ now (out .exit) ≡ fitted (responseTo (served (now (job .entry)) (now (report .entry)))) (now (out .entry)) ⌝ }
+    ensures size { λ r. ⌜ r ≡ fitting (responseTo (served (now (job .entry)) (now (report .entry)))) (now (out .entry)) ⌝ }
+    ensures bytes { λ r. ⌜ now (report .exit) ≡ served (now (job .entry)) (now (report .entry)) .report ⌝ }
 {
     let a = serve(job, report);
     match a {

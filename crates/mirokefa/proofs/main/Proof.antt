@@ -38,7 +38,7 @@ array-share-prefix-text : tie.Need-array-share-prefix-text
 array-share-prefix-text c = search needs
 
 slice-aggregate-write-all : tie.Need-slice-aggregate-write-all
-slice-aggregate-write-all c = rw length-take (omega (arith, c .before .before .before .respond .ensures .1, c .before .before .before .respond .kept .1 .1 .0))
+slice-aggregate-write-all c = rw length-take (omega (arith, c .before .before .before .respond .ensures .1 .0, c .before .before .before .respond .kept .1 .1 .0))
 
 write-all-requires : tie.Need-write-all-requires
 write-all-requires c κs = search needs

@@ -1,7 +1,6 @@
 use Rattle.serving.proofs.Opened.{front-length, explored-reply}
 use lib.ListN.{length-replicate}
 use Prim.Native.Nat.{ℕ}
-use mathlib.Core.Path.{_≡_, refl, sym, ap, _∙_}
 use borrow.Author.Needs.{needs}
 use Rattle.serving.proofs.explore_read.Statement.{statement}
 use Rattle.serving.proofs.explore_read.Tie as tie

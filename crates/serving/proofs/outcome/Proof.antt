@@ -1,5 +1,5 @@
 use Rattle.serving.specs.Served.{outcomeOf}
-use mathlib.Core.Path.{_≡_, refl, sym, ap, _∙_}
+use mathlib.Core.Path.{sym, ap}
 use borrow.Author.Needs.{needs}
 use Rattle.serving.proofs.outcome.Statement.{statement}
 use Rattle.serving.proofs.outcome.Tie as tie
@@ -13,8 +13,8 @@ job-number-requires c κs = search needs
 enum-known-a-2 : tie.Need-enum-known-a-2
 enum-known-a-2 c = search needs
 
-yes-number-requires : tie.Need-yes-number-requires
-yes-number-requires c κs = search needs
+reply-requires : tie.Need-reply-requires
+reply-requires c κs = search needs
 
 returns : tie.Need-returns
 unfolding outcomeOf
@@ -22,15 +22,9 @@ returns c = rw (c .job-number .ensures) (ap outcomeOf (sym (c .before .before .a
 
 returns-2 : tie.Need-returns-2
 unfolding outcomeOf
-returns-2 c = rw (c .yes-number .ensures) (ap outcomeOf (sym (c .before .before .a2 .given .1)))
+returns-2 c = rw (c .reply .ensures) (ap outcomeOf (sym (c .before .before .a2 .given .1)))
 
 pub outcome-spec : {M : Type 1} → statement M
 outcome-spec =
     tie.close
-    (tie.spec
-    enum-known-a
-    job-number-requires
-    enum-known-a-2
-    yes-number-requires
-    returns
-    returns-2)
+    (tie.spec enum-known-a job-number-requires enum-known-a-2 reply-requires returns returns-2)

@@ -1,10 +1,8 @@
 use borrow.Author.Needs.{needs}
 use Rattle.serving.proofs.Opened.{listed-fits}
-use Rattle.serving.specs.Response.{responseBy, responseTo}
-use Rattle.serving.specs.Served.{ServedLeft, servedLeft}
-use denote.Ref.{now}
+use Rattle.serving.specs.Response.{responseBy}
 use native.Mathlib.Omega.{arith}
-use mathlib.Core.Path.{_≡_, refl, sym, ap, _∙_}
+use mathlib.Core.Path.{refl}
 use Rattle.serving.proofs.respond.Statement.{statement}
 use Rattle.serving.proofs.respond.Tie as tie
 
@@ -34,7 +32,7 @@ same-length-2 c = search needs
 
 returns : tie.Need-returns
 unfolding responseBy
-returns c = rw (← (c .before .before .before .before .before .before .before .before .before .before .serve .ensures), c .before .before .before .before .before .before .a .given .1, ← (c .before .before .before .before .job-number .ensures)) (c .before .before .print-refusal .ensures)
+returns c = rw (← (c .before .before .before .before .before .before .before .before .before .before .serve .ensures), c .before .before .before .before .before .before .a .given .1, ← (c .before .before .before .before .job-number .ensures)) (let e = c .before .before .print-refusal .ensures in (e .0, (e .1, refl)))
 
 same-length-3 : tie.Need-same-length-3
 same-length-3 c = search needs
@@ -44,7 +42,7 @@ same-length-4 c = search needs
 
 returns-2 : tie.Need-returns-2
 unfolding responseBy
-returns-2 c = rw (← (c .before .before .before .before .before .before .before .before .before .before .serve .ensures), c .before .before .before .before .before .before .a2 .given .1) (c .before .before .print-listing .ensures)
+returns-2 c = rw (← (c .before .before .before .before .before .before .before .before .before .before .serve .ensures), c .before .before .before .before .before .before .a2 .given .1) (let e = c .before .before .print-listing .ensures in (e .0, (e .1, refl)))
 
 pub respond-spec : {M : Type 1} → statement M
 respond-spec =

@@ -1,5 +1,4 @@
 use Rattle.serving.proofs.Opened.{read-refused, read-open, code-few, inputs-few, code-length, intervals-length, memory-length, served-open}
-use mathlib.Core.Path.{_≡_, refl, sym, ap, _∙_}
 use lib.ListN.{length-replicate}
 use Prim.Native.Nat.{ℕ}
 use denote.Ref.{now}

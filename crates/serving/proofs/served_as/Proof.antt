@@ -1,5 +1,5 @@
 use Rattle.serving.specs.Served.{servedAs}
-use mathlib.Core.Path.{_≡_, refl, sym, ap, _∙_}
+use mathlib.Core.Path.{sym, ap}
 use borrow.Author.Needs.{needs}
 use Rattle.serving.proofs.served_as.Statement.{statement}
 use Rattle.serving.proofs.served_as.Tie as tie

@@ -1,0 +1,104 @@
+-- The program's text: the whole of it fits, and of a listing it is what document 01 shows of the listing's paths.
+-- Assumes nothing.
+use mathlib.Core.Path.{_≡_, refl, sym, ap, _∙_}
+use mathlib.Core.Bool.{Bool, true}
+use mathlib.Core.List.{List, _++_}
+use mathlib.Core.Option.{none}
+use Prim.Native.Nat.{ℕ, _+_, _*_, _/_, _^_, _≤_, _<_}
+use native.Mathlib.Omega.{arith}
+use borrow.Author.Tests.{ltb-true}
+use lib.Dec.{ltb}
+use lib.ListN.{length, drop, length-take}
+use lib.Seq.{take-all}
+use Rattle.boxes.proofs.Lists.{_∈_}
+use Rattle.boxes.proofs.Places.{part-mem}
+use Rattle.blocks.specs.Record.{pathBytes}
+use Rattle.blocks.proofs.Reading.{Fits}
+use Rattle.calls.specs.Call.{Call, Typed, Below, Reply, isPage, asks, door, jobOf, page, replyBy, replyTo, called}
+use Rattle.calls.specs.declared.Answer.the-variants.{Page}
+use Rattle.calls.specs.declared.Refusal.the-variants.{First}
+use Rattle.demands.proofs.Accepted.{accepted-yes, accepted-sound, job-inputs}
+use Rattle.demands.proofs.Refuses.{page-door}
+use Rattle.demands.proofs.Words.{path-fits}
+use Rattle.jobs.specs.Job.{jobRead, jobNumber}
+use Rattle.listing.specs.Group.{Job}
+use Rattle.listing.specs.Listing.{Path, listing}
+use Rattle.printing.specs.Printed.{listingText, longest}
+use Rattle.printing.specs.Sheet.{fitted, fitting}
+use Rattle.printing.specs.Shown.{listingOf}
+use Rattle.printing.proofs.Lengths.{listing-length, refusal-length}
+use Rattle.printing.proofs.Told.{listing-told}
+use Rattle.serving.specs.Response.{responseBy, responseTo}
+use Rattle.serving.specs.Served.{tableWords, reply, callIn, servedLeft, served}
+use Rattle.serving.specs.Server.{Bytes}
+use Rattle.serving.specs.declared.Served.{Served}
+use Rattle.serving.specs.declared.Served.the-variants.{Refused, Listed}
+use Rattle.serving.proofs.Opened.{listed-fits}
+use Rattle.serving.proofs.Lent.{lent}
+use Rattle.serving.proofs.Demands.{zeros-length, listed-called}
+
+-- no text is longer than a full report's
+pub response-length : (job report : List ℕ) → length (responseTo (served job report)) ≤ longest (length report / pathBytes)
+unfolding responseBy
+response-length job report = go (served job report .answer) refl
+  where
+    go : (a : Served) → served job report .answer ≡ a → length (responseBy a (served job report .report)) ≤ longest (length report / pathBytes)
+    go (Refused r) e = omega (arith, refusal-length (jobNumber r))
+    go (Listed n m) e =
+        let l = served job report .report in
+        let f = listed-fits job report l (ap (λ (a : Served). servedLeft a l) (sym e)) in
+        omega (arith, listing-length n m l)
+
+-- so where such a text fits, the whole text is written
+pub response-whole : (job report out : List ℕ) → longest (length report / pathBytes) ≤ length out
+    → let text = responseTo (served job report) in (fitted text out ≡ text ++ drop (length text) out) × (fitting text out ≡ length text)
+response-whole job report out h =
+    let text = responseTo (served job report) in
+    let l : length text ≤ length out = omega (arith, response-length job report) in
+    (rw (take-all (length out) text l), omega arith)
+
+-- a report of 64 paths and as many bytes for the text, as the program has them
+pub program-whole : (job report out : List ℕ) → length report ≡ 65536 → length out ≡ 65536
+    → let text = responseTo (served job report) in (fitted text out ≡ text ++ drop (length text) out) × (fitting text out ≡ length text)
+program-whole job report out r o = response-whole job report out (omega arith)
+
+-- an accepted call's page as text
+module _ (memory : List ℕ) (words : ℕ) (c : Call) (bounded : Below (2 ^ 64) memory) (typed : Typed c) (d : door memory words c ≡ none) where
+  abbrev j : Job
+  j = jobOf memory words c
+
+  abbrev ps : List Path
+  ps = page j c
+
+  page-few : c .first + length ps ≤ 2 ^ 64
+  unfolding page asks
+  page-few =
+      let first = ltb-true (c .first) (2 ^ 32) (accepted-yes memory words c d First) in
+      rw length-take (omega (arith, typed .bytes))
+
+  page-fits : (p : Path) → p ∈ ps → (k : ℕ) → k < 2 ^ 64 → Fits k p
+  unfolding page jobOf
+  page-fits p i =
+      path-fits j (accepted-sound memory words c d bounded (typed .intervals)) (typed .limit) p
+      (part-mem (length (c .report) / pathBytes) (c .first) (listing j) i) (job-inputs memory words c d)
+
+  page-shown : {n : ℕ} {m : Bool} {left : List ℕ} → reply (Page n m) left ≡ replyTo memory words c → listingText n m left ≡ listingOf (c .first) ps m
+  unfolding replyTo replyBy
+  page-shown {n} {m} {left} e =
+      let f : reply (Page n m) left ≡ replyBy memory words c none = e ∙ ap (replyBy memory words c) d in
+      let a : Page n m ≡ Page (length ps) (ltb (c .first + length ps) (length (listing j))) = ap (λ (y : Reply). y .answer) f in
+      let count : n ≡ length ps = cc in
+      let bytes = ap (λ (y : Reply). y .report) f in
+      rw (count, bytes) (listing-told (2 ^ 64) (drop (pathBytes * length ps) (c .report)) (c .first) ps m page-few page-fits)
+
+-- the text of a listing
+pub response-shown : {n : ℕ} {m : Bool} (job report : List ℕ) → Bytes job report → served job report .answer ≡ Listed n m
+    → responseTo (served job report) ≡ listingOf (callIn job report .first) (page (jobOf (jobRead job .memory) tableWords (callIn job report)) (callIn job report)) m
+unfolding responseBy isPage called replyTo
+response-shown {n} {m} job report b e =
+    let l = lent job report b in
+    let c = callIn job report in
+    let memory = jobRead job .memory in
+    let q : reply (Page n m) (served job report .report) ≡ replyTo memory tableWords c = rw zeros-length at (listed-called job report e) in
+    let a : isPage (replyTo memory tableWords c .answer) ≡ true = ap (λ (y : Reply). isPage (y .answer)) (sym q) in
+    rw e (page-shown memory tableWords c (l .memory-words) (l .typed) (page-door memory tableWords c (door memory tableWords c) a) q)
