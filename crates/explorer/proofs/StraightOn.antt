@@ -25,7 +25,7 @@ use Rattle.decide.specs.declared.Decision.the-variants.{Ended, Steps, Forks}
 use Rattle.lockstep.specs.Together.{Pair, both}
 use Rattle.lockstep.specs.declared.Corners.{Corners}
 use Rattle.straight.specs.Stepped.{Decided}
-use Rattle.explorer.specs.Held.{usedOf}
+use Rattle.explorer.specs.Held.{usedOf, further}
 use Rattle.explorer.specs.Explored.{RunsOn}
 use Rattle.explorer.specs.declared.Standing.{Standing}
 use Rattle.explorer.proofs.Explored.{explored-straight}
@@ -82,30 +82,16 @@ runs-none = record { onto = λ j w ls hs table report c e g r. record { explored
 pub runs-left : {code : List ℕ} {m : Limits} {s r : Standing} {p q q′ : Pair} → RunsOn code m s p r q → q′ ≡ q → RunsOn code m s p r q′
 runs-left k e = rw e k
 
--- where it stands after a step with n writes
-abbrev next : Standing → ℕ → Corners → Standing
-next s n a =
-    record {
-      going = true;
-      running = true;
-      more = false;
-      steps = s .steps + 1;
-      used = s .used + n;
-      forks = s .forks;
-      paths = s .paths;
-      at = a;
-    }
-
 -- one step more
 pub runs-more : {code : List ℕ} {m : Limits} {s r : Standing} {p : Pair} {l c h o t v l′ c′ h′ o′ t′ v′ : List ℕ} {b : Corners} {n : ℕ}
     → RunsOn code m s p r (both (r .at) l c h o t v)
     → Decided code m (usedOf r) (r .at) l h (both (r .at) l c h o t v) (both b l′ c′ h′ o′ t′ v′) n
-    → RunsOn code m s p (next r n b) (both b l′ c′ h′ o′ t′ v′)
+    → RunsOn code m s p (further r n b) (both b l′ c′ h′ o′ t′ v′)
 runs-more {r = r} {l′ = l′} {c′ = c′} {h′ = h′} {o′ = o′} {t′ = t′} {v′ = v′} {b = b} {n = n} k d =
     record {
       onto = λ j w ls hs table report z e g f.
           let a = k .onto j w ls hs table report z e g f in
-          let y = explored-straight (a .explored) (a .running) (a .going) (d .instruction) (rw z (d .steps)) l′ c′ h′ o′ t′ v′ (next r n b)
-          (ap (λ (q : ℕ). next r q b) (d .entries)) (d .moves ls hs) in
+          let y = explored-straight (a .explored) (a .running) (a .going) (d .instruction) (rw z (d .steps)) l′ c′ h′ o′ t′ v′ (further r n b)
+          (ap (λ (q : ℕ). further r q b) (d .entries)) (d .moves ls hs) in
           record { explored = y .0; going = refl; running = refl; less = omega (arith, y .1, a .less); paths = a .paths };
     }

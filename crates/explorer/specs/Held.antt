@@ -166,19 +166,23 @@ resumed m f s i a b =
       at = b;
     }
 
--- where it stands one instruction further
-abbrev pub stepped : Limits → Standing → Instruction → Corners → Standing
-stepped m s i a =
+-- where it stands a step further, with n entries more
+abbrev pub further : Standing → ℕ → Corners → Standing
+further s n a =
     record {
       going = true;
       running = true;
       more = false;
       steps = s .steps + 1;
-      used = s .used + writes (ltb (s .at .low .reads) (m .inputs)) i;
+      used = s .used + n;
       forks = s .forks;
       paths = s .paths;
       at = a;
     }
+
+-- where it stands one instruction further
+abbrev pub stepped : Limits → Standing → Instruction → Corners → Standing
+stepped m s i a = further s (writes (ltb (s .at .low .reads) (m .inputs)) i) a
 
 -- where it stands below the cut of a fork
 abbrev pub forked : Limits → Standing → Instruction → Corners → Standing

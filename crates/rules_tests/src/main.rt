@@ -173,34 +173,20 @@ fn plus_5(memory: &[u64], table: &mut [u64]) {
     try_job(b"0..MAX plus 5\n", &code, memory, &v, 100, table);
 }
 
-fn times_2(memory: &[u64], table: &mut [u64]) {
+// 0..2^63 times a factor, which one word of the code loads.
+fn times(name: &[u8], load: u32, memory: &[u64], table: &mut [u64]) {
     let code = [
         0x03F00893u32,
         0x00800613,
         0x00000073,
         0x00003283,
-        0x00200313,
+        load,
         0x02628533,
         0x05D00893,
         0x00000073,
     ];
     let v = [0u64, 9223372036854775808];
-    try_job(b"0..2^63 times 2\n", &code, memory, &v, 100, table);
-}
-
-fn times_4(memory: &[u64], table: &mut [u64]) {
-    let code = [
-        0x03F00893u32,
-        0x00800613,
-        0x00000073,
-        0x00003283,
-        0x00400313,
-        0x02628533,
-        0x05D00893,
-        0x00000073,
-    ];
-    let v = [0u64, 9223372036854775808];
-    try_job(b"0..2^63 times 4\n", &code, memory, &v, 100, table);
+    try_job(name, &code, memory, &v, 100, table);
 }
 
 fn mod_5(memory: &[u64], table: &mut [u64]) {
@@ -297,8 +283,8 @@ fn main() {
     job_a(&memory, &mut table);
     ten_less(&memory, &mut table);
     plus_5(&memory, &mut table);
-    times_2(&memory, &mut table);
-    times_4(&memory, &mut table);
+    times(b"0..2^63 times 2\n", 0x00200313, &memory, &mut table);
+    times(b"0..2^63 times 4\n", 0x00400313, &memory, &mut table);
     mod_5(&memory, &mut table);
     fixed_sum(&memory, &mut table);
     less_0(&memory, &mut table);

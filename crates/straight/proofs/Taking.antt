@@ -1,29 +1,27 @@
 -- A straight step from what its tests found. Assumes nothing.
-use mathlib.Core.Path.{_≡_, sym, ap, _∙_}
+use mathlib.Core.Path.{_≡_, ap, _∙_}
 use mathlib.Core.Logic.{_≢_}
-use mathlib.Core.Bool.{Bool, true, false, cond, not, _&&_, _||_}
+use mathlib.Core.Bool.{Bool, true}
 use mathlib.Core.List.{List}
-use Prim.Native.Nat.{ℕ, _+_, _-_, _/_, _%_, _≤_}
+use Prim.Native.Nat.{ℕ, _+_, _-_, _/_, _%_, _≤_, _<_}
 use native.Mathlib.Omega.{arith}
-use lib.Dec.{eqb, ltb}
+use lib.Dec.{ltb}
 use lib.ListN.{length, getD}
-use borrow.Author.Tests.{eq-eqb, ne-eqb, le-ltb}
+use borrow.Author.Tests.{eq-eqb, ne-eqb, lt-ltb, le-ltb}
 use Rattle.riscu.specs.Decode.{decodeOf}
-use Rattle.riscu.specs.Machine.{fetch}
 use Rattle.riscu.specs.declared.At.{At}
 use Rattle.riscu.specs.declared.Instruction.{Instruction}
 use Rattle.riscu.specs.declared.Decoded.{Decoded}
-use Rattle.riscu.specs.declared.Decoded.the-variants.{Row, NoRow}
+use Rattle.riscu.specs.declared.Decoded.the-variants.{Row}
 use Rattle.listing.specs.Group.{classOf}
 use Rattle.listing.specs.Ending.{points, writes}
-use Rattle.listing.specs.declared.End.the-variants.{BadPc}
 use Rattle.decide.specs.Corner.{cornerView, machine, sameClass, verdict, onward, unlessEnds, rowDecision, decision}
 use Rattle.decide.specs.declared.Limits.{Limits}
 use Rattle.decide.specs.declared.Used.{Used}
-use Rattle.decide.specs.declared.Decision.the-variants.{Ended, Steps}
+use Rattle.decide.specs.declared.Decision.the-variants.{Steps}
 use Rattle.decide.specs.declared.Verdict.the-variants.{Passes}
 use Rattle.lockstep.specs.declared.Corners.{Corners}
-use Rattle.straight.specs.Stepped.{Goes, Stepped, DecidedStep}
+use Rattle.straight.specs.Stepped.{Goes, Stepped, FormStepped, DecidedStep}
 use Rattle.straight.specs.declared.Straight.{Straight}
 use Rattle.straight.specs.declared.Straight.the-variants.{Taken, Left}
 
@@ -35,31 +33,32 @@ goes {room} i {l} {h} v k e n =
     let same : sameClass i l h ≡ true = eq-eqb _ _ k in
     record { steps = λ left. rw (v, same, le-ltb room (writes left i + 0) (omega (arith, e left))); entries = e }
 
--- the decision on a row that the code has at pc
-pub decided : (code : List ℕ) (m : Limits) (u : Used) (a : At) (l h : List ℕ) {i : Instruction} {d : Decoded}
-    → u .steps ≢ m .steps → d ≡ fetch code (a .pc) → d ≡ Row i
-    → ((left : Bool) → rowDecision (m .entries - u .entries) left l h (Row i) ≡ Steps i) → decision code m u a l h ≡ Steps i
-unfolding decision fetch
-decided code m u a l h {i} s f e k =
-    rw (ne-eqb (u .steps) (m .steps) s) (go (eqb (a .pc % 4) 0) (ltb (a .pc / 4) (length code)) (decodeOf (getD code (a .pc / 4) 0)) (sym f ∙ e))
-  where
-    go : (t v : Bool) (d : Decoded) → cond (t && v) d NoRow ≡ Row i
-        → cond (not t || not v) (Ended BadPc) (rowDecision (m .entries - u .entries) (ltb (a .reads) (m .inputs)) l h d) ≡ Steps i
-    go true true d r = ap (rowDecision (m .entries - u .entries) (ltb (a .reads) (m .inputs)) l h) r ∙ k (ltb (a .reads) (m .inputs))
-    go true false d r = let z : _≡_ {A = ℕ} 0 1 = cc in absurd (omega arith)
-    go false true d r = let z : _≡_ {A = ℕ} 0 1 = cc in absurd (omega arith)
-    go false false d r = let z : _≡_ {A = ℕ} 0 1 = cc in absurd (omega arith)
+-- a row's straight step is that of a word of the row
+pub of-row : (room : ℕ) (d : Decoded) (i : Instruction) (a : Corners) (l c h o t v l′ c′ h′ o′ t′ v′ : List ℕ) → d ≡ Row i
+    → (r : Straight) → Stepped room i a l c h o t v l′ c′ h′ o′ t′ v′ r → FormStepped room d a l c h o t v l′ c′ h′ o′ t′ v′ r
+of-row room d i a l c h o t v l′ c′ h′ o′ t′ v′ e (Taken b w) k = record { instruction = i; is = e; goes = k .0; moves = k .1 }
+of-row room d i a l c h o t v l′ c′ h′ o′ t′ v′ e Left k = k
 
--- a row's straight step is the code's
-pub from-row : (code : List ℕ) (m : Limits) (u : Used) (a : Corners) (l c h o t v l′ c′ h′ o′ t′ v′ : List ℕ) {i : Instruction} {d : Decoded}
-    → u .steps ≢ m .steps → d ≡ fetch code (a .low .pc) → d ≡ Row i
-    → (r : Straight) → Stepped (m .entries - u .entries) i a l c h o t v l′ c′ h′ o′ t′ v′ r
+-- the decision on a word that the code has at pc
+pub decided : (code : List ℕ) (m : Limits) (u : Used) (a : At) (l h : List ℕ) {i : Instruction}
+    → u .steps ≢ m .steps → a .pc % 4 ≡ 0 → a .pc / 4 < length code → decodeOf (getD code (a .pc / 4) 0) ≡ Row i
+    → ((left : Bool) → rowDecision (m .entries - u .entries) left l h (Row i) ≡ Steps i) → decision code m u a l h ≡ Steps i
+unfolding decision
+decided code m u a l h s p q e k =
+    let left = ltb (a .reads) (m .inputs) in
+    simp (ne-eqb (u .steps) (m .steps) s, eq-eqb (a .pc % 4) 0 p, lt-ltb (a .pc / 4) (length code) q)
+    (ap (rowDecision (m .entries - u .entries) left l h) e ∙ k left)
+
+-- its straight step is the code's
+pub from-word : (code : List ℕ) (m : Limits) (u : Used) (a : Corners) (l c h o t v l′ c′ h′ o′ t′ v′ : List ℕ)
+    → u .steps ≢ m .steps → a .low .pc % 4 ≡ 0 → a .low .pc / 4 < length code
+    → (r : Straight) → FormStepped (m .entries - u .entries) (decodeOf (getD code (a .low .pc / 4) 0)) a l c h o t v l′ c′ h′ o′ t′ v′ r
     → DecidedStep code m u a l c h o t v l′ c′ h′ o′ t′ v′ r
-from-row code m u a l c h o t v l′ c′ h′ o′ t′ v′ {i} s f e (Taken b w) k =
+from-word code m u a l c h o t v l′ c′ h′ o′ t′ v′ s p q (Taken b w) k =
     record {
-      instruction = i;
-      steps = decided code m u (a .low) l h s f e (k .0 .steps);
-      entries = k .0 .entries (ltb (a .low .reads) (m .inputs));
-      moves = k .1;
+      instruction = k .instruction;
+      steps = decided code m u (a .low) l h s p q (k .is) (k .goes .steps);
+      entries = k .goes .entries (ltb (a .low .reads) (m .inputs));
+      moves = k .moves;
     }
-from-row code m u a l c h o t v l′ c′ h′ o′ t′ v′ s f e Left k = k
+from-word code m u a l c h o t v l′ c′ h′ o′ t′ v′ s p q Left k = k

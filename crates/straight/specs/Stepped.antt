@@ -6,6 +6,7 @@ use Prim.Native.Nat.{ℕ}
 use lib.Dec.{ltb}
 use Rattle.boxes.specs.Boxes.{Choice}
 use Rattle.riscu.specs.declared.Instruction.{Instruction}
+use Rattle.riscu.specs.declared.Decoded.{Decoded}
 use Rattle.riscu.specs.declared.Decoded.the-variants.{Row}
 use Rattle.listing.specs.Ending.{writes}
 use Rattle.decide.specs.Corner.{rowDecision, decision}
@@ -39,6 +40,18 @@ RegistersStepped room i a l h t l′ h′ t′ r = (c o v : List ℕ) → Steppe
 -- of a row that writes nothing
 abbrev pub NothingWritten : Instruction → Corners → List ℕ → List ℕ → Straight → Type 0
 NothingWritten i a l h r = (room : ℕ) (t : List ℕ) → RegistersStepped room i a l h t l h t r
+
+-- of a word that d is: the instruction is the row's
+pub record Formed (room : ℕ) (d : Decoded) (l h : List ℕ) (p q : Pair) (w : ℕ) : Type 0 where
+  pub instruction : Instruction
+  pub is : d ≡ Row instruction
+  pub goes : Goes room instruction l h w
+  pub moves : Moves instruction p q
+
+abbrev pub FormStepped : ℕ → Decoded → Corners → List ℕ → List ℕ → List ℕ → List ℕ → List ℕ → List ℕ → List ℕ → List ℕ → List ℕ → List ℕ → List ℕ → List ℕ → Straight → Type 0
+FormStepped room d a l c h o t v l′ c′ h′ o′ t′ v′ (Taken b w) =
+    Formed room d l h (both a l c h o t v) (both b l′ c′ h′ o′ t′ v′) w
+FormStepped room d a l c h o t v l′ c′ h′ o′ t′ v′ Left = both a l′ c′ h′ o′ t′ v′ ≡ both a l c h o t v
 
 -- the same from the code: the instruction is the one that the whole decision finds
 pub record Decided (code : List ℕ) (m : Limits) (u : Used) (a : Corners) (l h : List ℕ) (p q : Pair) (w : ℕ) : Type 0 where

@@ -13,8 +13,13 @@ use lockstep::tags::mark_copied;
 use lockstep::tags::mark_loaded;
 use lockstep::tags::mark_result;
 use lockstep::tags::mark_stored;
-use riscu::Instruction;
 use riscu::Operation;
+use riscu::decoder::imm_b;
+use riscu::decoder::imm_i;
+use riscu::decoder::imm_j;
+use riscu::decoder::imm_s;
+use riscu::decoder::imm_u;
+use riscu::decoder::row_of;
 use riscu::plain::Memory;
 use riscu::plain::Registers;
 use riscu::plain::addi;
@@ -26,7 +31,9 @@ use riscu::plain::lui;
 use riscu::plain::put;
 use riscu::plain::sd;
 ghost use Rattle.riscu.specs.declared.Instruction.the-variants.{Lui, Addi, Register, Ld, Sd, Beq, Jal};
-ghost use Rattle.straight.specs.Stepped.{Stepped, RegistersStepped, NothingWritten};
+ghost use Rattle.riscu.specs.Decode.{decodeOf};
+ghost use Rattle.riscu.specs.Table.{formOf};
+ghost use Rattle.straight.specs.Stepped.{Stepped, RegistersStepped, NothingWritten, FormStepped};
 
 fn straight_lui(
     room: usize,
@@ -231,9 +238,10 @@ fn straight_jump(
     }
 }
 
-// The straight step of an instruction, already decoded.
-pub fn straight_row(
-    i: Instruction,
+// The straight step of a word of that row; the last two rows are left.
+fn straight_row(
+    row: usize,
+    w: usize,
     room: usize,
     low: &mut Registers,
     lowmem: &mut Memory,
@@ -243,32 +251,21 @@ pub fn straight_row(
     cells: &mut Memory,
     at: Corners,
 ) -> Straight
-    ensures { λ r. ⌜ Stepped room i at (now (low .entry)) (now (lowmem .entry)) (now (high .entry)) (now (highmem .entry)) (now (tags .entry)) (now (cells .entry)) (now (low .exit)) (now (lowmem .exit)) (now (high .exit)) (now (highmem .exit)) (now (tags .exit)) (now (cells .exit)) r ⌝ }
+    ensures { λ r. ⌜ FormStepped room (formOf row w) at (now (low .entry)) (now (lowmem .entry)) (now (high .entry)) (now (highmem .entry)) (now (tags .entry)) (now (cells .entry)) (now (low .exit)) (now (lowmem .exit)) (now (high .exit)) (now (highmem .exit)) (now (tags .exit)) (now (cells .exit)) r ⌝ }
 {
-    match i {
-        Instruction::Lui { rd, imm } => straight_lui(room, low, high, tags, rd, imm, at),
-        Instruction::Addi { rd, rs1, imm } => straight_addi(
-            room,
-            low,
-            high,
-            tags,
-            rd,
-            rs1,
-            imm,
-            at,
-        ),
-        Instruction::Register { op, rd, rs1, rs2 } => straight_operation(
-            room,
-            low,
-            high,
-            tags,
-            op,
-            rd,
-            rs1,
-            rs2,
-            at,
-        ),
-        Instruction::Ld { rd, rs1, imm } => straight_load(
+    let rd = w / 128 % 32;
+    let rs1 = w / 32768 % 32;
+    let rs2 = w / 1048576 % 32;
+    match row {
+        0 => straight_lui(room, low, high, tags, rd, imm_u(w), at),
+        1 => straight_addi(room, low, high, tags, rd, rs1, imm_i(w), at),
+        2 => straight_operation(room, low, high, tags, Operation::Add, rd, rs1, rs2, at),
+        3 => straight_operation(room, low, high, tags, Operation::Sub, rd, rs1, rs2, at),
+        4 => straight_operation(room, low, high, tags, Operation::Mul, rd, rs1, rs2, at),
+        5 => straight_operation(room, low, high, tags, Operation::Divu, rd, rs1, rs2, at),
+        6 => straight_operation(room, low, high, tags, Operation::Remu, rd, rs1, rs2, at),
+        7 => straight_operation(room, low, high, tags, Operation::Sltu, rd, rs1, rs2, at),
+        8 => straight_load(
             room,
             low,
             lowmem,
@@ -278,10 +275,10 @@ pub fn straight_row(
             cells,
             rd,
             rs1,
-            imm,
+            imm_i(w),
             at,
         ),
-        Instruction::Sd { rs1, rs2, imm } => straight_store(
+        9 => straight_store(
             room,
             low,
             lowmem,
@@ -291,12 +288,30 @@ pub fn straight_row(
             cells,
             rs1,
             rs2,
-            imm,
+            imm_s(w),
             at,
         ),
-        Instruction::Beq { rs1, rs2, imm } => straight_branch(low, high, rs1, rs2, imm, at),
-        Instruction::Jal { rd, imm } => straight_jump(room, low, high, tags, rd, imm, at),
-        Instruction::Jalr { rd, rs1, imm } => Straight::Left,
-        Instruction::Ecall => Straight::Left,
+        10 => straight_branch(low, high, rs1, rs2, imm_b(w), at),
+        11 => straight_jump(room, low, high, tags, rd, imm_j(w), at),
+        _ => Straight::Left,
     }
+}
+
+// The straight step of a word.
+pub fn straight_word(
+    word: u32,
+    room: usize,
+    low: &mut Registers,
+    lowmem: &mut Memory,
+    high: &mut Registers,
+    highmem: &mut Memory,
+    tags: &mut Registers,
+    cells: &mut Memory,
+    at: Corners,
+) -> Straight
+    ensures { λ r. ⌜ FormStepped room (decodeOf word) at (now (low .entry)) (now (lowmem .entry)) (now (high .entry)) (now (highmem .entry)) (now (tags .entry)) (now (cells .entry)) (now (low .exit)) (now (lowmem .exit)) (now (high .exit)) (now (highmem .exit)) (now (tags .exit)) (now (cells .exit)) r ⌝ }
+{
+    let w = word as usize;
+    let row = row_of(w);
+    straight_row(row, w, room, low, lowmem, high, highmem, tags, cells, at)
 }

@@ -1,14 +1,12 @@
 // The straight step from the code: the first three points of the ending order, and then the row.
 use crate::Straight;
-use crate::rows::straight_row;
+use crate::rows::straight_word;
 use decide::Limits;
 use decide::Used;
 use decide::group::room;
 use lockstep::Corners;
-use riscu::Decoded;
 use riscu::plain::Memory;
 use riscu::plain::Registers;
-use riscu::plain::fetch;
 ghost use Rattle.straight.specs.Stepped.{DecidedStep};
 
 // Takes the next step, where it is straight and its row is one of the usual ones.
@@ -30,10 +28,25 @@ pub fn straight_step(
         return Straight::Left;
     }
     let l = at.low;
-    let d = fetch(code, l.pc);
-    let Decoded::Row(i) = d else {
+    let pc = l.pc;
+    let n = code.len() as u64;
+    if pc % 4 != 0 {
         return Straight::Left;
-    };
+    }
+    if n <= pc / 4 {
+        return Straight::Left;
+    }
+    let k = (pc / 4) as usize;
     let entries = room(limits, used);
-    straight_row(i, entries, low, lowmem, high, highmem, tags, cells, at)
+    straight_word(
+        code[k],
+        entries,
+        low,
+        lowmem,
+        high,
+        highmem,
+        tags,
+        cells,
+        at,
+    )
 }
