@@ -214,12 +214,12 @@ fn read(k: u32, register: u32) -> [u32; 6] {
     [call[0], call[1], call[2], call[3], ecall(), ld(register, address, 0)]
 }
 
-/// Adds, compares, stores and loads in a loop of `turns` turns and eight steps each.
-fn busy_loop(turns: u64) -> Job {
+/// Adds, compares, stores and loads in a loop of `turns` turns and eight steps each. One path, from 9 on.
+fn busy_loop(turns: u64, low: u64, high: u64) -> Job {
     let start = [ld(6, 256, 0), addi(7, 0, 9)];
     let turn = [add(5, 5, 7), sltu(28, 5, 7), sd(5, 64, 0), ld(29, 64, 0), sub(30, 29, 7)];
     let back = [addi(6, 6, -1), beq(6, 0, 8), jal(0, -28)];
-    let mut job = job(reads(&[&start[..], &turn, &back].concat()), &[7, 7]);
+    let mut job = job(reads(&[&start[..], &turn, &back].concat()), &[low, high]);
     job.memory[32] = turns;
     // six writes in each turn
     job.entries = 6 * turns as usize + 16;
@@ -316,15 +316,17 @@ fn stack_used(job: Job) -> usize {
 // The tables.
 
 fn print_against_plain() {
-    let job = busy_loop(7_500);
+    let job = busy_loop(7_500, 20, 20);
     let cost = job.cost(3);
-    let plain_steps = run_plain(&job, &[7]);
+    let open = busy_loop(7_500, 20, 30).cost(3);
+    let plain_steps = run_plain(&job, &[20]);
     assert_eq!((cost.paths, cost.steps), (1, plain_steps), "the two run the same steps");
+    assert_eq!((open.paths, open.steps), (1, plain_steps), "an open input runs them too");
     let plain = median_ns(3, || {
-        black_box(run_plain(black_box(&job), black_box(&[7])));
+        black_box(run_plain(black_box(&job), black_box(&[20])));
     });
     // what the long table costs by itself
-    let mut idle = busy_loop(7_500);
+    let mut idle = busy_loop(7_500, 20, 20);
     idle.code = vec![0];
     let clearing = idle.cost(3).ns;
     let steps = plain_steps as f64;
@@ -333,6 +335,7 @@ fn print_against_plain() {
     println!("| | ns a step | ratio |\n|---|---|---|");
     println!("| plain interpreter | {:.1} | 1.0 |", plain / steps);
     println!("| engine, whole call | {:.1} | {:.1} |", cost.ns / steps, cost.ns / plain);
+    println!("| engine, whole call, input 20..30 | {:.1} | {:.1} |", open.ns / steps, open.ns / plain);
     let own = cost.ns - clearing;
     println!("| engine, without the table's clearing | {:.1} | {:.1} |", own / steps, own / plain);
 }
@@ -363,7 +366,7 @@ fn print_growth() {
     println!("| | paths | steps of all paths | µs a call | paths a second |");
     println!("|---|---|---|---|---|");
     for turns in [500, 1_000, 2_000, 4_000, 8_000] {
-        println!("| one path, {turns} turns | {} |", cost_text(&busy_loop(turns).cost(3)));
+        println!("| one path, {turns} turns | {} |", cost_text(&busy_loop(turns, 20, 30).cost(3)));
     }
     for forks in [1, 2, 4, 8, 16, 32] {
         let cost = compared_often(forks).cost(20);
