@@ -1,4 +1,4 @@
--- What the code's contracts use beside the definitions: the door's answer and the answer's numbers in the code's types.
+-- The answer's numbers at the border, and the door's answer in the code's types.
 use Prim.Native.Nat.{ℕ}
 use mathlib.Core.Bool.{Bool, true, false}
 use mathlib.Core.Option.{Option, none, some}

@@ -1,6 +1,6 @@
 -- What a reader must believe of a call.
 --     Call        what is lent, the questions at the door, what a call leaves
---     Door        what the code's contracts use beside these
+--     Door        the answer's numbers at the border
 --     Engine      an engine, the contract of its calls, histories of calls
 --     Refuses     demand 1: refusals and their causes
 --     Faithful    demand 2: what a path says of the plain machine

@@ -13,7 +13,7 @@ ghost use Rattle.explorer.specs.Explored.{RunsOn};
 // So many steps at the most, so that the loop ends whatever the limits.
 const STRAIGHT_STEPS: usize = 65536;
 
-// Straight steps one after another, as many as there are.
+// Straight steps one after another. How many it takes is free: the turn that it stands in asks the whole decision next.
 pub fn run_straight(
     code: &[u32],
     limits: Limits,

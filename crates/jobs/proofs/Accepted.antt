@@ -10,10 +10,10 @@ use borrow.Author.Tests.{le-leb, eq-eqb}
 use lib.ListN.{length, take, length-append, length-replicate}
 use lib.Seq.{take-at}
 use Rattle.blocks.specs.Record.{room}
-use Rattle.calls.specs.Call.{Call, callOf, asks, firstNo, door}
+use Rattle.calls.specs.Call.{asks, firstNo, door}
 use Rattle.calls.specs.declared.Refusal.{Refusal}
 use Rattle.calls.specs.declared.Refusal.the-variants.{Code, Inputs, Order, Limit, Table, Memory, Report, First}
-use Rattle.jobs.specs.Job.{codeCount, inputCount, givenCount, codeAt, memoryAt, intervalAt, codeIn, intervalsIn, memoryIn, jobRead, codeFits, ordered, limitFits, firstFits, jobDoor}
+use Rattle.jobs.specs.Job.{codeCount, inputCount, givenCount, codeAt, memoryAt, intervalAt, codeIn, intervalsIn, memoryIn, jobRead, callIn, codeFits, ordered, limitFits, firstFits, jobDoor}
 use Rattle.jobs.specs.Reading.{over}
 use Rattle.jobs.proofs.Copied.{copied}
 use Rattle.jobs.proofs.Asked.{open-passed, open-sized}
@@ -33,14 +33,8 @@ unfolding memoryIn
 memory-length bytes h = rw (length-append, length-replicate, copied (memoryAt bytes) (givenCount bytes)) (omega arith)
 
 -- what is read is taken from the front of what was lent
-
 pub over-taken : (new old : List ℕ) {n : ℕ} → length new ≡ n → take n (over new old) ≡ new
 over-taken new old {n} e = take-at new _ n e
-
--- the call of an accepted job
-abbrev pub jobCall : List ℕ → List ℕ → Call
-jobCall bytes report =
-    callOf (jobRead bytes .code) (jobRead bytes .intervals) (jobRead bytes .limit) report (jobRead bytes .first)
 
 yes-on : (answer : Refusal → Bool) (r : Refusal) (rs : List Refusal) → answer r ≡ true → firstNo answer (r ∷ rs) ≡ firstNo answer rs
 unfolding firstNo
@@ -52,7 +46,7 @@ last-yes answer r q e = rw e
 
 module _ (bytes report : List ℕ) (words : ℕ) (e : jobDoor bytes ≡ none) (table : 8 ≤ words) where
   abbrev answer : Refusal → Bool
-  answer = asks (jobRead bytes .memory) words (jobCall bytes report)
+  answer = asks (jobRead bytes .memory) words (callIn bytes report)
 
   code-asked : answer Code ≡ true
   unfolding asks jobRead codeFits
@@ -85,7 +79,7 @@ module _ (bytes report : List ℕ) (words : ℕ) (e : jobDoor bytes ≡ none) (t
   unfolding asks jobRead firstFits
   first-asked = open-passed bytes e .first
 
-  pub accepted-door : door (jobRead bytes .memory) words (jobCall bytes report) ≡ firstNo answer (Report ∷ [])
+  pub accepted-door : door (jobRead bytes .memory) words (callIn bytes report) ≡ firstNo answer (Report ∷ [])
   accepted-door =
       yes-on answer Code _ code-asked
       ∙ yes-on answer Inputs _ inputs-asked

@@ -8,7 +8,8 @@ use lib.ListN.{length, drop, replicate}
 use Rattle.boxes.specs.Boxes.{from}
 use Rattle.blocks.specs.Block.{blockWords, blockBytes, payloadWords, wordAt, agrees}
 use Rattle.blocks.specs.Record.{room}
-use Rattle.calls.specs.Call.{number, boxOf, inOrder}
+use Rattle.calls.specs.Call as call
+use Rattle.calls.specs.Call.{callOf, number, boxOf, inOrder}
 use Rattle.calls.specs.declared.Refusal.the-variants.{Code, Inputs, Order, Limit, Memory, First}
 use Rattle.jobs.specs.declared.JobRefusal.{JobRefusal}
 use Rattle.jobs.specs.declared.JobRefusal.the-variants.{Blocks, Check, Call, Form}
@@ -103,6 +104,10 @@ jobRead bytes =
       first = firstPath bytes;
       memory = memoryIn bytes;
     }
+
+-- the call that a job stands for, with the report that is lent to it
+abbrev pub callIn : List ℕ → List ℕ → call.Call
+callIn bytes report = let j = jobRead bytes in callOf (j .code) (j .intervals) (j .limit) report (j .first)
 
 -- The questions.
 

@@ -19,13 +19,13 @@ use Rattle.calls.specs.declared.Answer.the-variants as answer
 use Rattle.calls.specs.declared.Refusal.{Refusal}
 use Rattle.calls.specs.declared.Refusal.the-variants.{Report}
 use Rattle.demands.proofs.Demands.{leaves-meets, demand-2, demand-3}
-use Rattle.jobs.specs.Job.{jobRead, jobDoor}
+use Rattle.jobs.specs.Job.{jobRead, callIn, jobDoor}
 use Rattle.jobs.specs.declared.JobRefusal.{JobRefusal}
 use Rattle.jobs.specs.declared.JobRefusal.the-variants as job
 use Rattle.jobs.proofs.Accepted.{accepted-door}
 use Rattle.listing.specs.Group.{Job}
 use Rattle.listing.specs.Listing.{listing}
-use Rattle.serving.specs.Served.{tableWords, reply, servedAs, callIn, servedLeft, servedBy, served}
+use Rattle.serving.specs.Served.{tableWords, reply, servedAs, servedLeft, servedBy, served}
 use Rattle.serving.specs.Server.{zeros, Bytes, ServedCall, questionOf, answerOf, exchangeOf, ServedOn}
 use Rattle.serving.specs.declared.Served.the-variants.{Refused, Listed}
 use Rattle.serving.proofs.Lent.{lent}

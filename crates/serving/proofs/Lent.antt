@@ -12,8 +12,8 @@ use Rattle.blocks.specs.Block.{wordBytes, blockWords, payloadWords, numberOf, w
 use Rattle.blocks.proofs.Bytes.{room-more, getD-padded}
 use Rattle.calls.specs.Call.{Below}
 use Rattle.calls.specs.Engine.{Lent}
-use Rattle.jobs.specs.Job.{codeCount, inputCount, givenCount, firstCode, firstMemory, payloadAt, codeAt, memoryAt, intervalAt, codeIn, intervalsIn, memoryIn, jobRead}
-use Rattle.serving.specs.Served.{tableWords, callIn}
+use Rattle.jobs.specs.Job.{codeCount, inputCount, givenCount, firstCode, firstMemory, payloadAt, codeAt, memoryAt, intervalAt, codeIn, intervalsIn, memoryIn, jobRead, callIn}
+use Rattle.serving.specs.Served.{tableWords}
 use Rattle.serving.specs.Server.{zeros, Bytes}
 
 -- n bytes hold a number below 256 ^ n

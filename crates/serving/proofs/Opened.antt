@@ -7,22 +7,20 @@ use mathlib.Core.Option.{Option, none, some}
 use Prim.Native.Nat.{ℕ, _*_, _/_, _≤_}
 use native.Mathlib.Nat.{div-mul-le-self}
 use native.Mathlib.Omega.{arith}
-use lib.ListN.{length, take, drop, length-append, length-drop, length-map, length-replicate, length-take}
-use lib.Seq.{take-at}
-use Rattle.boxes.specs.Boxes.{from}
-use Rattle.boxes.proofs.Lists.{length-from}
+use lib.ListN.{length, take, drop, length-append, length-drop, length-take}
 use Rattle.blocks.specs.Record.{room, pathBytes}
 use Rattle.calls.specs.Call.{Call, callOf, door, jobOf, page, Reply, replyBy, replyTo, Left, left, called}
 use Rattle.calls.specs.declared.Refusal.{Refusal}
 use Rattle.listing.specs.Listing.{listing}
 use Rattle.calls.specs.declared.Answer.{Answer}
-use Rattle.jobs.specs.Job.{codeIn, intervalsIn, memoryIn, jobRead, jobDoor}
+use Rattle.jobs.specs.Job.{codeIn, intervalsIn, memoryIn, jobRead, callIn, jobDoor}
 use Rattle.jobs.specs.Reading.{countsIn, over, JobLeft, jobLeft, readBy, readTo}
 use Rattle.jobs.specs.declared.JobRefusal.{JobRefusal}
 use Rattle.jobs.specs.declared.Counts.{Counts}
 use Rattle.jobs.specs.declared.JobAnswer.the-variants.{Refused, Read}
+use Rattle.jobs.proofs.Accepted.{code-length as code-read, intervals-length as intervals-read, memory-length as memory-read, over-taken}
 use Rattle.jobs.proofs.Asked.{open-sized}
-use Rattle.serving.specs.Served.{tableWords, reply, servedAs, callIn, ServedLeft, servedLeft, servedBy, served}
+use Rattle.serving.specs.Served.{tableWords, reply, servedAs, ServedLeft, servedLeft, servedBy, served}
 use Rattle.serving.specs.declared.Served.the-variants as served
 
 -- a part at the front of a slice, and its length
@@ -80,12 +78,10 @@ module _ (job code intervals memory : List ℕ) (c i m : List ℕ) where
 
   module _ {k : Counts} (o : Opened k) (code-room : length code ≡ 1024) (intervals-room : length intervals ≡ 2 * room) where
     code-count : length (codeIn job) ≡ k .code
-    unfolding codeIn
-    code-count = length-map (from 0 _) _ ∙ length-from _ 0 ∙ sym (ap (λ (x : Counts). x .code) (o .counts))
+    code-count = code-read job ∙ sym (ap (λ (x : Counts). x .code) (o .counts))
 
     intervals-count : length (intervalsIn job) ≡ 2 * k .inputs
-    unfolding intervalsIn
-    intervals-count = length-map (from 0 _) _ ∙ length-from _ 0 ∙ sym (ap (λ (x : Counts). 2 * x .inputs) (o .counts))
+    intervals-count = intervals-read job ∙ sym (ap (λ (x : Counts). 2 * x .inputs) (o .counts))
 
     pub code-few : k .code ≤ 1024
     code-few = omega (arith, open-sized job (o .opens) .code, ap (λ (x : Counts). x .code) (o .counts))
@@ -100,16 +96,15 @@ module _ (job code intervals memory : List ℕ) (c i m : List ℕ) where
     intervals-length = rw (o .intervals-is, length-append, length-drop) (omega (arith, inputs-few, intervals-count))
 
     pub memory-length : 512 ≡ length m
-    unfolding memoryIn
-    memory-length = rw (o .memory-is, length-append, length-map, length-from, length-replicate) (omega (arith, open-sized job (o .opens) .given))
+    memory-length = rw (o .memory-is) (sym (memory-read job (open-sized job (o .opens) .given)))
 
     pub served-open : (a : Answer) (report left : List ℕ)
         → reply a left ≡ replyTo m tableWords (callOf (take (k .code) c) (take (2 * k .inputs) i) (k .limit) report (k .first))
         → servedLeft (servedAs a) left ≡ served job report
     unfolding served servedBy jobRead
     served-open a report left e =
-        let p : take (k .code) c ≡ codeIn job = rw (o .code-is) (take-at (codeIn job) (drop (length (codeIn job)) code) (k .code) code-count) in
-        let q : take (2 * k .inputs) i ≡ intervalsIn job = rw (o .intervals-is) (take-at (intervalsIn job) (drop (length (intervalsIn job)) intervals) (2 * k .inputs) intervals-count) in
+        let p : take (k .code) c ≡ codeIn job = rw (o .code-is) (over-taken (codeIn job) code code-count) in
+        let q : take (2 * k .inputs) i ≡ intervalsIn job = rw (o .intervals-is) (over-taken (intervalsIn job) intervals intervals-count) in
         let f = rw (p, q, o .memory-is, o .counts) at e in
         rw (o .opens) (ap (λ (y : Reply). servedLeft (servedAs (y .answer)) (y .report)) f)
 

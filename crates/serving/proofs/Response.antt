@@ -9,7 +9,6 @@ use native.Mathlib.Omega.{arith}
 use borrow.Author.Tests.{ltb-true}
 use lib.Dec.{ltb}
 use lib.ListN.{length, drop, length-take}
-use lib.Seq.{take-all}
 use Rattle.boxes.proofs.Lists.{_∈_}
 use Rattle.boxes.proofs.Places.{part-mem}
 use Rattle.blocks.specs.Record.{pathBytes}
@@ -20,16 +19,17 @@ use Rattle.calls.specs.declared.Refusal.the-variants.{First}
 use Rattle.demands.proofs.Accepted.{accepted-yes, accepted-sound, job-inputs}
 use Rattle.demands.proofs.Refuses.{page-door}
 use Rattle.demands.proofs.Words.{path-fits}
-use Rattle.jobs.specs.Job.{jobRead, jobNumber}
+use Rattle.jobs.specs.Job.{jobRead, callIn, jobNumber}
 use Rattle.listing.specs.Group.{Job}
 use Rattle.listing.specs.Listing.{Path, listing}
 use Rattle.printing.specs.Printed.{listingText, longest}
 use Rattle.printing.specs.Sheet.{fitted, fitting}
 use Rattle.printing.specs.Shown.{listingOf}
 use Rattle.printing.proofs.Lengths.{listing-length, refusal-length}
+use Rattle.printing.proofs.Sheets.{all-fits}
 use Rattle.printing.proofs.Told.{listing-told}
-use Rattle.serving.specs.Response.{responseBy, responseTo}
-use Rattle.serving.specs.Served.{tableWords, reply, callIn, servedLeft, served}
+use Rattle.serving.specs.Response.{reportPaths, responseBy, responseTo}
+use Rattle.serving.specs.Served.{tableWords, reply, servedLeft, served}
 use Rattle.serving.specs.Server.{Bytes}
 use Rattle.serving.specs.declared.Served.{Served}
 use Rattle.serving.specs.declared.Served.the-variants.{Refused, Listed}
@@ -53,12 +53,10 @@ response-length job report = go (served job report .answer) refl
 pub response-whole : (job report out : List ℕ) → longest (length report / pathBytes) ≤ length out
     → let text = responseTo (served job report) in (fitted text out ≡ text ++ drop (length text) out) × (fitting text out ≡ length text)
 response-whole job report out h =
-    let text = responseTo (served job report) in
-    let l : length text ≤ length out = omega (arith, response-length job report) in
-    (rw (take-all (length out) text l), omega arith)
+    all-fits (responseTo (served job report)) out (omega (arith, response-length job report))
 
--- a report of 64 paths and as many bytes for the text, as the program has them
-pub program-whole : (job report out : List ℕ) → length report ≡ 65536 → length out ≡ 65536
+-- the program's report, and as many bytes for the text
+pub program-whole : (job report out : List ℕ) → length report ≡ reportPaths * pathBytes → length out ≡ length report
     → let text = responseTo (served job report) in (fitted text out ≡ text ++ drop (length text) out) × (fitting text out ≡ length text)
 program-whole job report out r o = response-whole job report out (omega arith)
 

@@ -2,12 +2,12 @@
 use Prim.Native.Nat.{ℕ}
 use mathlib.Core.List.{List}
 use mathlib.Core.Option.{Option, none, some}
-use Rattle.calls.specs.Call.{Call, callOf, Reply, replyTo}
+use Rattle.calls.specs.Call.{Reply, replyTo}
 use Rattle.calls.specs.Door.{replyOf}
 use Rattle.calls.specs.declared.Answer.{Answer}
 use Rattle.calls.specs.declared.Answer.the-variants as answer
 use Rattle.calls.specs.declared.Outcome.{Outcome}
-use Rattle.jobs.specs.Job.{jobRead, jobDoor, jobNumber}
+use Rattle.jobs.specs.Job.{jobRead, callIn, jobDoor, jobNumber}
 use Rattle.jobs.specs.declared.JobRefusal.{JobRefusal}
 use Rattle.jobs.specs.declared.JobRefusal.the-variants as job
 use Rattle.serving.specs.declared.Served.{Served}
@@ -24,10 +24,6 @@ reply a report = record { answer = a; report = report }
 unfoldable pub servedAs : Answer → Served
 servedAs (answer.Refused r) = Refused (job.Call r)
 servedAs (answer.Page n m) = Listed n m
-
--- the call that a job stands for
-abbrev pub callIn : List ℕ → List ℕ → Call
-callIn bytes report = let j = jobRead bytes in callOf (j .code) (j .intervals) (j .limit) report (j .first)
 
 -- what a served call leaves
 pub record ServedLeft : Type 0 where

@@ -10,10 +10,10 @@ use Rattle.calls.specs.declared.Answer.{Answer}
 use Rattle.calls.specs.declared.Answer.the-variants as answer
 use Rattle.calls.specs.declared.Refusal.{Refusal}
 use Rattle.calls.specs.declared.Refusal.the-variants.{Report}
-use Rattle.jobs.specs.Job.{jobRead, jobDoor}
+use Rattle.jobs.specs.Job.{jobRead, callIn, jobDoor}
 use Rattle.jobs.specs.declared.JobRefusal.{JobRefusal}
 use Rattle.jobs.specs.declared.JobRefusal.the-variants as job
-use Rattle.serving.specs.Served.{tableWords, callIn, ServedLeft, served}
+use Rattle.serving.specs.Served.{tableWords, ServedLeft, served}
 use Rattle.serving.specs.declared.Served.{Served}
 use Rattle.serving.specs.declared.Served.the-variants.{Refused, Listed}
 

@@ -9,7 +9,7 @@ use riscu::plain::Memory;
 use riscu::plain::Registers;
 ghost use Rattle.straight.specs.Stepped.{DecidedStep};
 
-// Takes the next step, where it is straight and its row is one of the usual ones.
+// Takes the next step, where it is straight and its row is one of the usual ones. Which straight steps it leaves is free: nothing has moved then.
 pub fn straight_step(
     code: &[u32],
     limits: Limits,
