@@ -1,19 +1,21 @@
 //! What the library costs: the numbers of docs/BENCHMARKS.md, as markdown tables.
 
-mod assembler;
+#[path = "../tool/library.rs"]
 mod library;
 
-use assembler::*;
+use formats::assembler::{self, *};
+use formats::blocks::flat;
+use formats::instruction::{bits, immediate, Form};
+use formats::job::Job;
+use formats::limits::{
+    path_bytes, ENTRY_WORDS, MEMORY_WORDS, MOST_STEPS, REGISTERS, USUAL_PAGE_PATHS,
+    USUAL_TABLE_WORDS,
+};
+use formats::report::read_pages;
 use std::hint::black_box;
 use std::time::Instant;
 
 const MAX: u64 = u64::MAX;
-const MEMORY_WORDS: usize = 512;
-const WORDS_PER_ENTRY: usize = 8;
-const PATH_BYTES: usize = 1024;
-/// The program's table, of 1,024 entries.
-const TABLE_WORDS: usize = 8192;
-const HIGHEST_LIMIT: u64 = 65_536;
 /// Timed runs; their median is printed.
 const RUNS: usize = 15;
 
@@ -34,25 +36,24 @@ fn median_ns(repeats: u32, mut call: impl FnMut()) -> f64 {
     times[RUNS / 2]
 }
 
-/// What a call lends.
-struct Job {
-    code: Vec<u32>,
+/// What a call lends: a job, and room for so many entries and paths.
+struct Call {
+    job: Job,
     memory: Vec<u64>,
     intervals: Vec<u64>,
-    limit: u64,
     entries: usize,
     paths: usize,
 }
 
-fn job(code: Vec<u32>, intervals: &[u64]) -> Job {
-    Job {
-        code,
-        memory: vec![0; MEMORY_WORDS],
-        intervals: intervals.to_vec(),
-        limit: HIGHEST_LIMIT,
-        entries: TABLE_WORDS / WORDS_PER_ENTRY,
-        paths: 64,
-    }
+fn call_of(job: Job) -> Call {
+    let (memory, intervals) = (job.whole_memory(), flat(&job.intervals));
+    let entries = USUAL_TABLE_WORDS / ENTRY_WORDS;
+    Call { job, memory, intervals, entries, paths: USUAL_PAGE_PATHS }
+}
+
+fn call(code: Vec<u32>, low: u64, high: u64, inputs: usize) -> Call {
+    let (limit, intervals) = (MOST_STEPS, vec![(low, high); inputs]);
+    call_of(Job { code, intervals, limit, first: 0, memory: Vec::new() })
 }
 
 /// A job's cost: the paths of its first page and the time of the call.
@@ -62,27 +63,29 @@ struct Cost {
     ns: f64,
 }
 
-impl Job {
+impl Call {
     fn cost(&self, repeats: u32) -> Cost {
-        let mut table = vec![0; self.entries * WORDS_PER_ENTRY];
-        let mut report = vec![0; self.paths * PATH_BYTES];
-        let mut reply = self.call(&mut table, &mut report);
+        let (mut table, mut report) = self.room();
+        let mut reply = self.make(&mut table, &mut report);
         assert!(reply.refused == 0 && reply.more == 0, "{reply:?}");
-        let steps = steps_of(&report[..reply.count as usize * PATH_BYTES]);
-        let ns = median_ns(repeats, || reply = black_box(self.call(&mut table, &mut report)));
+        let inputs = self.job.intervals.len();
+        let page = &report[..reply.count as usize * path_bytes(inputs)];
+        let records = read_pages(page, inputs).expect("a page of the library");
+        let steps = records.iter().map(|record| record.steps).sum();
+        let ns = median_ns(repeats, || reply = black_box(self.make(&mut table, &mut report)));
         Cost { paths: reply.count, steps, ns }
     }
 
-    fn call(&self, table: &mut [u64], report: &mut [u8]) -> library::Reply {
-        let (code, memory, intervals) = (&self.code, &self.memory, &self.intervals);
-        library::explore(code, memory, intervals, self.limit, table, report, 0)
+    /// Table and report.
+    fn room(&self) -> (Vec<u64>, Vec<u8>) {
+        let size = path_bytes(self.job.intervals.len());
+        (vec![0; self.entries * ENTRY_WORDS], vec![0; self.paths * size])
     }
-}
 
-/// Steps of all paths of a page together: word 3 of each first block.
-fn steps_of(page: &[u8]) -> u64 {
-    let word = |path: &[u8]| path[24..32].iter().rev().fold(0, |word, &b| word << 8 | b as u64);
-    page.chunks_exact(PATH_BYTES).map(word).sum()
+    fn make(&self, table: &mut [u64], report: &mut [u8]) -> library::Reply {
+        let (memory, intervals) = (&self.memory, &self.intervals);
+        library::explore(&self.job.code, memory, intervals, self.job.limit, table, report, 0)
+    }
 }
 
 // ---------------------------------------------------------------------------------------------
@@ -90,17 +93,13 @@ fn steps_of(page: &[u8]) -> u64 {
 
 struct Plain<'a> {
     pc: u64,
-    registers: [u64; 32],
+    registers: [u64; REGISTERS],
     memory: [u64; MEMORY_WORDS],
     inputs: &'a [u64],
 }
 
-fn bits(word: u32, from: u32, count: u32) -> u32 {
-    (word >> from) & ((1 << count) - 1)
-}
-
-fn sign_extend(value: u32, width: u32) -> u64 {
-    (((value as u64) << (64 - width)) as i64 >> (64 - width)) as u64
+fn offset(form: Form, word: u32) -> u64 {
+    immediate(form, word) as u64
 }
 
 impl Plain<'_> {
@@ -120,10 +119,10 @@ impl Plain<'_> {
     fn step(&mut self, word: u32) -> Option<()> {
         let (rs1, rs2) = (bits(word, 15, 5) as usize, bits(word, 20, 5) as usize);
         let (a, b) = (self.registers[rs1], self.registers[rs2]);
-        let imm = sign_extend(bits(word, 20, 12), 12);
+        let imm = offset(Form::Immediate, word);
         let next = self.pc.wrapping_add(4);
         match (bits(word, 0, 7), bits(word, 12, 3)) {
-            (55, _) => self.put(word, sign_extend(word & 0xFFFFF000, 32), next),
+            (55, _) => self.put(word, offset(Form::Upper, word), next),
             (19, 0) => self.put(word, a.wrapping_add(imm), next),
             (51, funct3) => {
                 let value = operate(funct3, bits(word, 25, 7), bits(word, 7, 5), a, b)?;
@@ -131,12 +130,12 @@ impl Plain<'_> {
             }
             (3, 3) => self.put(word, self.memory[index(a.wrapping_add(imm))?], next),
             (35, 3) => {
-                let offset = sign_extend(bits(word, 25, 7) << 5 | bits(word, 7, 5), 12);
-                self.memory[index(a.wrapping_add(offset))?] = b;
+                self.memory[index(a.wrapping_add(offset(Form::Store, word)))?] = b;
                 self.pc = next;
             }
-            (99, 0) => self.pc = self.pc.wrapping_add(if a == b { branch_offset(word) } else { 4 }),
-            (111, _) => self.put(word, next, self.pc.wrapping_add(jump_offset(word))),
+            (99, 0) if a == b => self.pc = self.pc.wrapping_add(offset(Form::Branch, word)),
+            (99, 0) => self.pc = next,
+            (111, _) => self.put(word, next, self.pc.wrapping_add(offset(Form::Jump, word))),
             (103, 0) => self.put(word, next, a.wrapping_add(imm) & !1),
             _ if word == 115 => self.read()?,
             _ => return None,
@@ -186,92 +185,71 @@ fn index(address: u64) -> Option<usize> {
     (address % 8 == 0 && address <= 4088).then_some(address as usize / 8)
 }
 
-fn branch_offset(word: u32) -> u64 {
-    let high = bits(word, 31, 1) << 12 | bits(word, 7, 1) << 11;
-    sign_extend(high | bits(word, 25, 6) << 5 | bits(word, 8, 4) << 1, 13)
-}
-
-fn jump_offset(word: u32) -> u64 {
-    let high = bits(word, 31, 1) << 20 | bits(word, 12, 8) << 12;
-    sign_extend(high | bits(word, 20, 1) << 11 | bits(word, 21, 10) << 1, 21)
-}
-
-fn run_plain(job: &Job, inputs: &[u64]) -> u64 {
+fn run_plain(call: &Call, inputs: &[u64]) -> u64 {
     let mut memory = [0; MEMORY_WORDS];
-    memory.copy_from_slice(&job.memory);
-    let mut plain = Plain { pc: 0, registers: [0; 32], memory, inputs };
+    memory.copy_from_slice(&call.memory);
+    let mut plain = Plain { pc: 0, registers: [0; REGISTERS], memory, inputs };
     plain.registers[2] = 4096;
-    plain.run(&job.code, job.limit)
+    plain.run(&call.job.code, call.job.limit)
 }
 
 // ---------------------------------------------------------------------------------------------
 // Programs.
 
-/// Reads input `k` to a word of its own and loads it.
-fn read(k: u32, register: u32) -> [u32; 6] {
-    let address = 8 * k as i32;
-    let call = [addi(17, 0, 63), addi(12, 0, 8), addi(10, 0, 0), addi(11, 0, address)];
-    [call[0], call[1], call[2], call[3], ecall(), ld(register, address, 0)]
-}
-
 /// Adds, compares, stores and loads in a loop of `turns` turns and eight steps each. One path, from 9 on.
-fn busy_loop(turns: u64, low: u64, high: u64) -> Job {
+fn busy_loop(turns: u64, low: u64, high: u64) -> Call {
     let start = [ld(6, 256, 0), addi(7, 0, 9)];
     let turn = [add(5, 5, 7), sltu(28, 5, 7), sd(5, 64, 0), ld(29, 64, 0), sub(30, 29, 7)];
     let back = [addi(6, 6, -1), beq(6, 0, 8), jal(0, -28)];
-    let mut job = job(reads(&[&start[..], &turn, &back].concat()), &[low, high]);
-    job.memory[32] = turns;
+    let mut call = call(reads(&[&start[..], &turn, &back].concat()), low, high, 1);
+    call.memory[32] = turns;
     // six writes in each turn
-    job.entries = 6 * turns as usize + 16;
-    job
+    call.entries = 6 * turns as usize + 16;
+    call
 }
 
-fn job_a() -> Job {
-    let mut job = job(reads(&[addi(6, 0, 10), sltu(10, 5, 6)]), &[0, 255]);
-    job.limit = 100;
-    job
+fn job_a() -> Call {
+    call_of(assembler::job_a())
 }
 
-fn ten_tests() -> Job {
-    let start = [addi(6, 0, 5), addi(7, 0, 10)];
-    let turn = [sltu(10, 5, 6), addi(7, 7, -1), beq(7, 0, 8), jal(0, -12)];
-    job(reads(&[&start[..], &turn].concat()), &[0, 255])
+fn ten_tests() -> Call {
+    call(reads(&assembler::ten_tests()), 0, 255, 1)
 }
 
 /// A wait by a queue of trucks (memory word 32) with 256 seconds each: two haul times of up to an
 /// hour; a truck that comes before the queue is done waits, and the second is marked by its lap.
-fn waiting_time() -> Job {
+fn waiting_time() -> Call {
     let queue = [ld(6, 256, 0), addi(7, 0, 256), mul(6, 6, 7), addi(10, 0, 0)];
     let first = [sltu(28, 5, 6), beq(28, 0, 8), sub(10, 6, 5)];
     let second = [sltu(28, 29, 6), beq(28, 0, 12), sub(30, 6, 29), sd(30, 72, 0)];
     let lap = [lui(7, 1), addi(7, 7, -1024), remu(31, 29, 7), sd(31, 80, 0)];
     let reads = [read(0, 5), read(1, 29)].concat();
     let code = [&reads[..], &queue, &first, &second, &lap, &closing()].concat();
-    let mut job = job(code, &[0, 3600, 0, 3600]);
-    job.memory[32] = 5;
-    job
+    let mut call = call(code, 0, 3600, 2);
+    call.memory[32] = 5;
+    call
 }
 
 /// Each of some inputs of 0..MAX gets 5 added and is compared: three pieces for each.
-fn compared_and_added(inputs: u32) -> Job {
+fn compared_and_added(inputs: u32) -> Call {
     let mut code = vec![lui(6, 0x7FFFF)];
     for k in 0..inputs {
         code.extend(read(k, 5));
-        code.extend([addi(7, 5, 5), sltu(28, 7, 6), sd(28, 64 + 8 * k as i32, 0)]);
+        code.extend([addi(7, 5, 5), sltu(28, 7, 6), sd(28, 64 + 8 * k as i64, 0)]);
     }
     code.extend(closing());
-    let mut job = job(code, &[0, MAX].repeat(inputs as usize));
-    job.paths = 3usize.pow(inputs);
-    job
+    let mut call = call(code, 0, MAX, inputs as usize);
+    call.paths = 3usize.pow(inputs);
+    call
 }
 
 /// One input of 0..MAX against `forks` constants.
-fn compared_often(forks: u32) -> Job {
+fn compared_often(forks: u32) -> Call {
     let mut work = vec![lui(6, 1)];
     for _ in 0..forks {
         work.extend([addi(6, 6, 1000), sltu(10, 5, 6)]);
     }
-    job(reads(&work), &[0, MAX])
+    call(reads(&work), 0, MAX, 1)
 }
 
 // ---------------------------------------------------------------------------------------------
@@ -298,14 +276,13 @@ fn deepest_change(top: usize) -> usize {
 }
 
 /// Bytes below the caller's frame that a call writes.
-fn stack_used(job: Job) -> usize {
+fn stack_used(call: Call) -> usize {
     let measured = move || {
-        let mut table = vec![0; job.entries * WORDS_PER_ENTRY];
-        let mut report = vec![0; job.paths * PATH_BYTES];
+        let (mut table, mut report) = call.room();
         let mark = 0u8;
         let top = black_box(&mark) as *const u8 as usize;
         paint(top);
-        black_box(job.call(&mut table, &mut report));
+        black_box(call.make(&mut table, &mut report));
         deepest_change(top)
     };
     let thread = std::thread::Builder::new().stack_size(4 * PAINTED).spawn(measured);
@@ -316,26 +293,30 @@ fn stack_used(job: Job) -> usize {
 // The tables.
 
 fn print_against_plain() {
-    let job = busy_loop(7_500, 20, 20);
-    let cost = job.cost(3);
+    let call = busy_loop(7_500, 20, 20);
+    let cost = call.cost(3);
     let open = busy_loop(7_500, 20, 30).cost(3);
-    let plain_steps = run_plain(&job, &[20]);
+    let plain_steps = run_plain(&call, &[20]);
     assert_eq!((cost.paths, cost.steps), (1, plain_steps), "the two run the same steps");
     assert_eq!((open.paths, open.steps), (1, plain_steps), "an open input runs them too");
     let plain = median_ns(3, || {
-        black_box(run_plain(black_box(&job), black_box(&[20])));
+        black_box(run_plain(black_box(&call), black_box(&[20])));
     });
     // what the long table costs by itself
     let mut idle = busy_loop(7_500, 20, 20);
-    idle.code = vec![0];
+    idle.job.code = vec![0];
     let clearing = idle.cost(3).ns;
     let steps = plain_steps as f64;
     println!("## One path against a plain interpreter\n");
-    println!("{plain_steps} steps; table of {} entries.\n", job.entries);
+    println!("{plain_steps} steps; table of {} entries.\n", call.entries);
     println!("| | ns a step | ratio |\n|---|---|---|");
     println!("| plain interpreter | {:.1} | 1.0 |", plain / steps);
     println!("| engine, whole call | {:.1} | {:.1} |", cost.ns / steps, cost.ns / plain);
-    println!("| engine, whole call, input 20..30 | {:.1} | {:.1} |", open.ns / steps, open.ns / plain);
+    println!(
+        "| engine, whole call, input 20..30 | {:.1} | {:.1} |",
+        open.ns / steps,
+        open.ns / plain
+    );
     let own = cost.ns - clearing;
     println!("| engine, without the table's clearing | {:.1} | {:.1} |", own / steps, own / plain);
 }
@@ -350,8 +331,8 @@ fn print_typical_jobs() {
         ("v < 5 tested ten times", ten_tests(), 100),
         ("eight inputs of 0..MAX, added and compared", compared_and_added(8), 1),
     ];
-    for (name, job, repeats) in jobs {
-        let cost = job.cost(repeats);
+    for (name, call, repeats) in jobs {
+        let cost = call.cost(repeats);
         println!("| {name} | {} |", cost_text(&cost));
     }
 }
@@ -379,19 +360,19 @@ fn print_growth() {
 }
 
 /// A word of no row: the smallest job that is accepted.
-fn smallest() -> Job {
-    let mut job = job(vec![0], &[]);
-    (job.entries, job.paths) = (1, 1);
-    job
+fn smallest() -> Call {
+    let mut call = call(vec![0], 0, 0, 0);
+    (call.entries, call.paths) = (1, 1);
+    call
 }
 
 fn print_single_calls() {
     let mut refused = smallest();
-    refused.code.clear();
-    let (mut table, mut report) = (vec![0; WORDS_PER_ENTRY], vec![0; PATH_BYTES]);
-    assert_eq!(refused.call(&mut table, &mut report).refused, 1);
+    refused.job.code.clear();
+    let (mut table, mut report) = refused.room();
+    assert_eq!(refused.make(&mut table, &mut report).refused, 1);
     let refused_ns = median_ns(10_000, || {
-        black_box(black_box(&refused).call(&mut table, &mut report));
+        black_box(black_box(&refused).make(&mut table, &mut report));
     });
     println!("\n## Single calls\n");
     println!("| call | ns | stack in bytes |\n|---|---|---|");

@@ -4,15 +4,20 @@
 //! force byte for byte; large ones with single runs of the plain machine.
 //! `explore_test [SEED COUNT]`: job k of a run has the seed SEED + k.
 
-mod assembler;
+#[path = "../tool/library.rs"]
 mod library;
 mod listing_check;
 mod oracle;
 mod programs;
 
+use formats::blocks::flat;
+use formats::limits::*;
+use formats::numbers::{CALL_REFUSALS, KINDS, REASONS};
+use formats::random::Random;
+use formats::show::code_line;
 use library::Reply;
-use oracle::{Interval, Job, Path, MEMORY_WORDS, PATH_BYTES, WORDS_PER_ENTRY};
-use programs::{input_count, large_box, memory_for, program, small_box, Random};
+use oracle::{Interval, Job, Path};
+use programs::{input_count, large_box, memory_for, program, small_box};
 
 const FIRST_SEED: u64 = 1;
 const JOBS: u64 = 10_400;
@@ -55,7 +60,7 @@ fn lent(random: &mut Random, memory: &[u64], table_words: usize) -> Lent {
 
 impl Lent {
     fn entries(&self) -> u64 {
-        (self.table_words / WORDS_PER_ENTRY) as u64
+        (self.table_words / ENTRY_WORDS) as u64
     }
 
     fn memory(&self) -> &[u64] {
@@ -97,6 +102,10 @@ struct Call {
 }
 
 impl Call {
+    fn path_bytes(&self) -> usize {
+        path_bytes(self.intervals.len() / 2)
+    }
+
     fn refusal(&self) -> Option<u64> {
         oracle::door(
             self.code.len(),
@@ -124,10 +133,6 @@ impl Call {
         lent.accepted |= reply.refused == 0;
         (reply, report)
     }
-}
-
-fn flat(intervals: &[Interval]) -> Vec<u64> {
-    intervals.iter().flat_map(|&(low, high)| [low, high]).collect()
 }
 
 fn random_report(random: &mut Random, bytes: usize) -> Vec<u8> {
@@ -159,10 +164,10 @@ fn compare_call(
         return Err(format!("{}: {reply:?}, expected {wanted:?}", call_text(call)));
     }
     if let Some(place) = (0..report.len()).find(|&place| report[place] != expected[place]) {
-        return Err(format!("{}: {}", call_text(call), byte_text(place, &report, &expected)));
+        return Err(format!("{}: {}", call_text(call), byte_text(call, place, &report, &expected)));
     }
     lent.check().map_err(|fault| format!("{}: {fault}", call_text(call)))?;
-    Ok(report[MARGIN..][..answer.count as usize * PATH_BYTES].to_vec())
+    Ok(report[MARGIN..][..answer.count as usize * call.path_bytes()].to_vec())
 }
 
 fn call_text(call: &Call) -> String {
@@ -180,13 +185,14 @@ fn call_text(call: &Call) -> String {
 }
 
 /// A byte of the report that differs, by the path, block and word of the page that it lies in.
-fn byte_text(place: usize, report: &[u8], expected: &[u8]) -> String {
+fn byte_text(call: &Call, place: usize, report: &[u8], expected: &[u8]) -> String {
     let at = place as i64 - MARGIN as i64;
+    let (path, block) = (call.path_bytes() as i64, BLOCK_BYTES as i64);
     format!(
         "report byte {at} (path {} of the page, block {}, word {}) is {}, expected {}",
-        at.div_euclid(PATH_BYTES as i64),
-        at.rem_euclid(PATH_BYTES as i64) / 512,
-        at.rem_euclid(512) / 8,
+        at.div_euclid(path),
+        at.rem_euclid(path) / block,
+        at.rem_euclid(block) / 8,
         report[place],
         expected[place]
     )
@@ -205,6 +211,10 @@ struct Task {
 }
 
 impl Task {
+    fn path_bytes(&self) -> usize {
+        path_bytes(self.job.intervals.len())
+    }
+
     fn call(&self, lent: &Lent, paths: usize, first: u64) -> Call {
         Call {
             code: self.job.code.clone(),
@@ -212,7 +222,7 @@ impl Task {
             limit: self.job.limit,
             memory_words: lent.memory_words,
             table_words: lent.table_words,
-            report_bytes: paths * PATH_BYTES,
+            report_bytes: paths * self.path_bytes(),
             first,
         }
     }
@@ -220,7 +230,8 @@ impl Task {
 
 fn table_words(random: &mut Random) -> usize {
     let few = random.pick(&[0, 1, 7, 8, 9, 15, 16, 23, 24, 40, 88, 150, 199, 240]);
-    random.pick(&[few, 400, 640, 1000, 8192, 8192, 8192, 8199])
+    let usual = USUAL_TABLE_WORDS;
+    random.pick(&[few, 400, 640, 1000, usual, usual, usual, usual + ENTRY_WORDS - 1])
 }
 
 fn limit(random: &mut Random) -> u64 {
@@ -241,7 +252,7 @@ fn random_job(random: &mut Random, lent: &Lent, intervals: &[Interval]) -> Job {
 /// Steps up to the highest limit, on one choice.
 fn long_job(random: &mut Random, lent: &Lent) -> Job {
     let mut job = random_job(random, lent, &[(7, 7)]);
-    job.limit = random.pick(&[65_536, 65_535, 10_000]);
+    job.limit = random.pick(&[MOST_STEPS, MOST_STEPS - 1, 10_000]);
     job
 }
 
@@ -272,7 +283,7 @@ fn own_listing(random: &mut Random, lent: &mut Lent, task: &mut Task) -> Result<
         task.job.limit /= 2;
         (reply, page) = whole_page(random, lent, task)?;
     }
-    let listing = listing_check::read_listing(&page)?;
+    let listing = listing_check::read_listing(&page, task.job.intervals.len())?;
     listing_check::check_listing(random, &task.job, &listing)?;
     Ok(listing)
 }
@@ -290,7 +301,7 @@ fn whole_page(
         return Err(format!("{}: {reply:?}", call_text(&call)));
     }
     lent.check()?;
-    let end = MARGIN + reply.count as usize * PATH_BYTES;
+    let end = MARGIN + reply.count as usize * call.path_bytes();
     if report[..MARGIN] != came[..MARGIN] || report[end..] != came[end..] {
         return Err(format!("{}: bytes beyond the page were written", call_text(&call)));
     }
@@ -307,7 +318,7 @@ fn random_call(random: &mut Random, lent: &mut Lent, task: &mut Task) -> Result<
     }
     let paths = task.listing.len();
     let near = random.below(paths + 3) as u64;
-    let first = random.pick(&[0, near, near, paths as u64, (1 << 32) - 1]);
+    let first = random.pick(&[0, near, near, paths as u64, PATH_NUMBERS - 1]);
     let mut call = task.call(lent, page_size(random, paths), first);
     if random.once_in(2) {
         let faults = random.pick(&[1, 1, 1, 2, 3, 5]);
@@ -327,7 +338,7 @@ fn next_page(random: &mut Random, lent: &mut Lent, task: &mut Task) -> Result<()
     let Some(first) = task.next else { return Ok(()) };
     let call = task.call(lent, page_size(random, task.listing.len()), first);
     let page = compare_call(random, lent, &call, &task.listing)?;
-    let count = (page.len() / PATH_BYTES) as u64;
+    let count = (page.len() / call.path_bytes()) as u64;
     task.joined.extend(page);
     task.next = Some(first + count).filter(|&next| next < task.listing.len() as u64);
     if task.next.is_none() && call.refusal().is_none() {
@@ -337,7 +348,7 @@ fn next_page(random: &mut Random, lent: &mut Lent, task: &mut Task) -> Result<()
 }
 
 fn check_joined(task: &Task) -> Result<(), String> {
-    let mut whole = vec![0; task.listing.len() * PATH_BYTES];
+    let mut whole = vec![0; task.listing.len() * task.path_bytes()];
     oracle::write_page(&task.listing, &mut whole, 0);
     if task.joined != whole {
         return Err("the joined pages are not the whole listing".to_string());
@@ -348,23 +359,35 @@ fn check_joined(task: &Task) -> Result<(), String> {
 /// A no to one of the questions; a later one may hide behind it.
 fn put_fault(random: &mut Random, call: &mut Call) {
     let big = random.next() | 1 << 40;
+    let most_intervals = 2 * MOST_INPUTS;
     match random.below(8) {
-        0 => call.code.resize(random.pick(&[0, 1025, 1026, 4000]), 0x13),
-        1 => call.intervals.resize(random.pick(&[1, 3, 15, 17, 18, 40]), 5),
-        2 => spoil_intervals(random, &mut call.intervals),
-        3 => call.limit = random.pick(&[0, 65_537, 65_600, u64::MAX, big]),
-        4 => call.table_words = random.pick(&[0, 1, 7]).min(call.table_words),
-        5 => {
-            call.memory_words = random.pick(&[0, 1, 256, 511, 513, 520]).min(call.memory_words + 8)
+        0 => call
+            .code
+            .resize(random.pick(&[0, MOST_CODE_WORDS + 1, MOST_CODE_WORDS + 2, 4000]), 0x13),
+        1 => {
+            let odd = [1, 3, most_intervals - 1];
+            let many = [most_intervals + 1, most_intervals + 2, 40];
+            call.intervals.resize(random.pick(&[odd, many].concat()), 5)
         }
-        6 => call.report_bytes = random.pick(&[0, 1, 512, 1023, 1025, 1536, 65_535]),
-        _ => call.first = random.pick(&[1 << 32, (1 << 32) + 1, u64::MAX, big]),
+        2 => spoil_intervals(random, &mut call.intervals),
+        3 => call.limit = random.pick(&[0, MOST_STEPS + 1, MOST_STEPS + 64, u64::MAX, big]),
+        4 => call.table_words = random.pick(&[0, 1, ENTRY_WORDS - 1]).min(call.table_words),
+        5 => {
+            let words = [0, 1, 256, MEMORY_WORDS - 1, MEMORY_WORDS + 1, MEMORY_WORDS + 8];
+            call.memory_words = random.pick(&words).min(call.memory_words + 8)
+        }
+        6 => {
+            let path = call.path_bytes();
+            let parts = [0, 1, path / 2, path - 1, path + 1, path + path / 2, 64 * path - 1];
+            call.report_bytes = random.pick(&parts)
+        }
+        _ => call.first = random.pick(&[PATH_NUMBERS, PATH_NUMBERS + 1, u64::MAX, big]),
     }
 }
 
 /// One pair with its low above its high.
 fn spoil_intervals(random: &mut Random, intervals: &mut Vec<u64>) {
-    intervals.resize(intervals.len().clamp(2, 16) & !1, 9);
+    intervals.resize(intervals.len().clamp(2, 2 * MOST_INPUTS) & !1, 9);
     let pair = 2 * random.below(intervals.len() / 2);
     let wrong = [(1, 0), (u64::MAX, 0), (u64::MAX, u64::MAX - 1), (1 << 63, (1 << 63) - 1)];
     (intervals[pair], intervals[pair + 1]) = random.pick(&wrong);
@@ -380,9 +403,10 @@ struct Failure {
 
 fn failure(lent: &Lent, job: &Job, fault: String) -> Failure {
     let constants = lent.memory().get(programs::CONSTANT_WORDS).unwrap_or(&[]);
+    let lines = job.code.iter().zip(0..).map(|(&word, place)| code_line(4 * place, word));
     let dump = format!(
         "{}  intervals {:?}\n  limit {}, {} table words, {} memory words, the constants {:X?}\n",
-        programs::code_text(&job.code),
+        lines.collect::<String>(),
         job.intervals,
         job.limit,
         lent.table_words,
@@ -392,12 +416,12 @@ fn failure(lent: &Lent, job: &Job, fault: String) -> Failure {
     Failure { fault, dump }
 }
 
-/// How often each thing was seen.
+/// How often each thing was seen; number 0 stands for none.
 #[derive(Default)]
 struct Tally {
-    kinds: [u64; 10],
-    reasons: [u64; 8],
-    refusals: [u64; 9],
+    kinds: [u64; KINDS as usize + 1],
+    reasons: [u64; REASONS as usize + 1],
+    refusals: [u64; CALL_REFUSALS as usize + 1],
     calls: u64,
     forks: u64,
     loops: u64,
@@ -431,9 +455,9 @@ impl Tally {
     }
 
     fn print(&self) {
-        println!("kinds 1 to 9: {:?}", &self.kinds[1..]);
-        println!("reasons 1 to 7: {:?}", &self.reasons[1..]);
-        println!("refusals 1 to 8: {:?}", &self.refusals[1..]);
+        println!("kinds 1 to {KINDS}: {:?}", &self.kinds[1..]);
+        println!("reasons 1 to {REASONS}: {:?}", &self.reasons[1..]);
+        println!("refusals 1 to {CALL_REFUSALS}: {:?}", &self.refusals[1..]);
         println!(
             "{} calls; programs with forks {}, loops {}, stores {}, several inputs {}",
             self.calls, self.forks, self.loops, self.stores, self.several_inputs
@@ -444,7 +468,8 @@ impl Tally {
 fn memory_lent(random: &mut Random, intervals: &[Interval], wrong: bool) -> Vec<u64> {
     let mut memory = memory_for(random, intervals);
     if wrong {
-        memory.resize(random.pick(&[0, 1, 511, 513, 1024]), 7);
+        let words = [0, 1, MEMORY_WORDS - 1, MEMORY_WORDS + 1, 2 * MEMORY_WORDS];
+        memory.resize(random.pick(&words), 7);
     }
     memory
 }
@@ -459,7 +484,7 @@ fn run_job(seed: u64, tally: &mut Tally) -> Result<(), Failure> {
     let wrong_memory = !large && random.once_in(50);
     let memory = memory_lent(random, &boxed, wrong_memory);
     let words = table_words(random);
-    let mut lent = lent(random, &memory, if large { words.max(8) } else { words });
+    let mut lent = lent(random, &memory, if large { words.max(ENTRY_WORDS) } else { words });
     let mut tasks = Vec::new();
     for _ in 0..1 + random.below(2) {
         tasks.push(match large {

@@ -1,31 +1,15 @@
 //! The expected listings of jobs/, compared with the oracle where the box is small enough for it.
 //! `jobs_test FILE.s..`: beside each source stands FILE.out.
 
-#[path = "../tool/blocks.rs"]
-mod blocks;
-#[allow(dead_code)]
-#[path = "../tool/instruction.rs"]
-mod instruction;
-#[allow(dead_code)]
-#[path = "../tool/job.rs"]
-mod job;
-#[allow(dead_code)]
-#[path = "../tool/numbers.rs"]
-mod numbers;
 mod oracle;
-#[allow(dead_code)]
-#[path = "../tool/report.rs"]
-mod report;
-#[path = "../tool/source.rs"]
-mod source;
 
-use job::Job;
-use report::{Shown, PATH_BYTES};
+use formats::blocks::flat;
+use formats::job::Job;
+use formats::limits::{path_bytes, USUAL_PAGE_PATHS, USUAL_TABLE_WORDS};
+use formats::report::{self, Shown};
+use formats::source;
 use std::fs::read_to_string;
 
-/// The program's page and table.
-const PAGE_PATHS: usize = 64;
-const TABLE_WORDS: usize = 8192;
 const MOST_CHOICES: u128 = 100_000;
 
 /// How many choices of inputs the job has, if the oracle can try them all.
@@ -36,18 +20,19 @@ fn choices(job: &Job) -> Option<u128> {
 }
 
 fn oracle_listing(job: &Job) -> Result<String, String> {
-    let mut page = vec![0; PAGE_PATHS * PATH_BYTES];
+    let inputs = job.intervals.len();
+    let mut page = vec![0; USUAL_PAGE_PATHS * path_bytes(inputs)];
     let answer = oracle::call(
         &job.code,
         &job.whole_memory(),
-        &job.flat_intervals(),
+        &flat(&job.intervals),
         job.limit,
-        TABLE_WORDS,
+        USUAL_TABLE_WORDS,
         &mut page,
         job.first,
     );
-    page.truncate(answer.count as usize * PATH_BYTES);
-    report::listing(&page, answer.more, Shown::None)
+    page.truncate(answer.count as usize * path_bytes(inputs));
+    Ok(report::listing(&report::read_pages(&page, inputs)?, answer.more, Shown::None))
 }
 
 /// The number of choices tried, none for a box that is too large.

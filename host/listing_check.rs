@@ -1,9 +1,11 @@
 //! A listing of any box compared with single runs of the plain machine.
 
 use crate::oracle::{end_by_corners, run_plain, trace_plain, write_page};
-use crate::oracle::{Interval, Job, Path, Step};
-use crate::oracle::{BLOCK_WORDS, NOT_FOLLOWED, PATH_BYTES, STEP_LIMIT};
-use crate::programs::Random;
+use crate::oracle::{Interval, Job, Path, Step, NOT_FOLLOWED, STEP_LIMIT};
+use formats::limits::{path_bytes, REGISTERS};
+use formats::numbers::{KINDS, REASONS};
+use formats::random::Random;
+use formats::report::{read_pages, Record};
 
 /// Choices tried in each path, and in the whole box.
 const CHOICES_PER_PATH: usize = 2;
@@ -13,41 +15,23 @@ const CHOICES_PER_BOX: usize = 8;
 // Paths from pages.
 
 /// The paths of joined pages; writing them again must give every byte.
-pub fn read_listing(pages: &[u8]) -> Result<Vec<Path>, String> {
-    let paths: Vec<Path> =
-        pages.chunks_exact(PATH_BYTES).map(read_path).collect::<Result<_, _>>()?;
+pub fn read_listing(pages: &[u8], inputs: usize) -> Result<Vec<Path>, String> {
+    let paths: Vec<Path> = read_pages(pages, inputs)?.into_iter().map(path_of).collect();
     let mut again = vec![0; pages.len()];
     write_page(&paths, &mut again, 0);
     match (0..pages.len()).find(|&place| pages[place] != again[place]) {
         Some(place) => Err(format!(
             "path {}: word {} of its blocks is not as its other words tell",
-            place / PATH_BYTES,
-            place % PATH_BYTES / 8
+            place / path_bytes(inputs),
+            place % path_bytes(inputs) / 8
         )),
         None => Ok(paths),
     }
 }
 
-fn read_path(bytes: &[u8]) -> Result<Path, String> {
-    let word_of = |bytes: &[u8]| bytes.iter().rev().fold(0, |word, &byte| word << 8 | byte as u64);
-    let words: Vec<u64> = bytes.chunks_exact(8).map(word_of).collect();
-    let (head, tail) = words.split_at(BLOCK_WORDS);
-    if head[4] > 8 {
-        return Err(format!("path {} has {} inputs", head[0], head[4]));
-    }
-    let mut registers = [(0, 0); 32];
-    for register in 1..32 {
-        registers[register] = (tail[2 * register - 1], tail[2 * register]);
-    }
-    Ok(Path {
-        kind: head[1],
-        reason: head[23],
-        pc: head[2],
-        steps: head[3],
-        boxes: (0..head[4] as usize).map(|input| (head[5 + input], head[13 + input])).collect(),
-        reads: head[24],
-        registers,
-    })
+fn path_of(record: Record) -> Path {
+    let Record { kind, reason, pc, steps, intervals, reads, registers, .. } = record;
+    Path { kind, reason, pc, steps, boxes: intervals, reads, registers }
 }
 
 // ---------------------------------------------------------------------------------------------
@@ -64,11 +48,7 @@ pub fn check_listing(random: &mut Random, job: &Job, paths: &[Path]) -> Result<(
     check_traces(job, paths)?;
     for _ in 0..CHOICES_PER_BOX {
         let inputs = choice(random, &job.intervals);
-        let owners: Vec<&Path> = paths.iter().filter(|path| has(path, &inputs)).collect();
-        if owners.len() != 1 {
-            return Err(format!("{inputs:?} lies in {} paths", owners.len()));
-        }
-        check_choice(job, owners[0], &inputs)?;
+        check_choice(job, owner(paths, &inputs)?, &inputs)?;
     }
     Ok(())
 }
@@ -99,6 +79,15 @@ fn divides_at(whole: &[Interval], boxes: &[&[Interval]], input: usize) -> bool {
     divides(&low_part, &boxes[..place]) && divides(&high_part, &boxes[place..])
 }
 
+/// The one path in whose box the choice lies.
+pub fn owner<'a>(paths: &'a [Path], inputs: &[u64]) -> Result<&'a Path, String> {
+    let owners: Vec<&Path> = paths.iter().filter(|path| has(path, inputs)).collect();
+    match owners[..] {
+        [owner] => Ok(owner),
+        _ => Err(format!("{inputs:?} lies in {} paths", owners.len())),
+    }
+}
+
 fn has(path: &Path, inputs: &[u64]) -> bool {
     path.boxes.iter().zip(inputs).all(|(ends, value)| (ends.0..=ends.1).contains(value))
 }
@@ -124,8 +113,8 @@ fn highs(path: &Path) -> Vec<u64> {
 // Single runs.
 
 fn check_path(random: &mut Random, job: &Job, path: &Path) -> Result<(), String> {
-    let reasoned = (1..=7).contains(&path.reason);
-    if !(1..=9).contains(&path.kind) || reasoned != (path.kind == NOT_FOLLOWED) {
+    let reasoned = (1..=REASONS).contains(&path.reason);
+    if !(1..=KINDS).contains(&path.kind) || reasoned != (path.kind == NOT_FOLLOWED) {
         return Err(format!("kind {} with reason {}", path.kind, path.reason));
     }
     if path.steps > job.limit || (path.steps == job.limit) != (path.kind == STEP_LIMIT) {
@@ -133,7 +122,7 @@ fn check_path(random: &mut Random, job: &Job, path: &Path) -> Result<(), String>
     }
     let at_lows = check_choice(job, path, &lows(path))?;
     let at_highs = check_choice(job, path, &highs(path))?;
-    for register in 0..32 {
+    for register in 0..REGISTERS {
         // a value hangs on one input and only rises or only falls: these two corners are its ends
         let (a, b) = (at_lows[register], at_highs[register]);
         if path.registers[register] != (a.min(b), a.max(b)) {
@@ -149,7 +138,7 @@ fn check_path(random: &mut Random, job: &Job, path: &Path) -> Result<(), String>
 }
 
 /// The run for a choice has the path's end and lies inside its intervals; gives its registers.
-fn check_choice(job: &Job, path: &Path, inputs: &[u64]) -> Result<[u64; 32], String> {
+pub fn check_choice(job: &Job, path: &Path, inputs: &[u64]) -> Result<[u64; REGISTERS], String> {
     // kinds 7, 8 and 9 stop the engine and not the machine
     let stop = (path.kind < STEP_LIMIT).then_some(path.kind);
     let run = run_plain(&job.code, &job.memory, inputs, path.steps + stop.is_some() as u64);

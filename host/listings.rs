@@ -2,10 +2,10 @@
 //!
 //! `listings` prints that file; `listings --check FILE` compares FILE with it.
 
-mod assembler;
 mod oracle;
 
-use assembler::*;
+use formats::assembler::{self, *};
+use formats::numbers::{KINDS, REASONS};
 use oracle::{Interval, Job, Path};
 use std::fmt::Write;
 
@@ -64,13 +64,9 @@ fn reading_two(name: &'static str, first: Interval, second: Interval, work: &[u3
     example(name, &code).over(first.0, first.1).over(second.0, second.1)
 }
 
-/// v < 10: document 01's Job A.
-fn less_than_ten() -> [u32; 2] {
-    [addi(6, 0, 10), sltu(10, 5, 6)]
-}
-
+/// v < 10: document 01's Job A, on a smaller box.
 fn job_a(name: &'static str) -> Example {
-    reading(name, 5, 14, &less_than_ten())
+    example(name, &assembler::job_a().code).over(5, 14)
 }
 
 // ---------------------------------------------------------------------------------------------
@@ -172,7 +168,7 @@ fn product_forks() -> Vec<Example> {
 }
 
 fn comparison_forks() -> Vec<Example> {
-    let equal = |constant: i32| [addi(6, 0, constant), beq(5, 6, 8), addi(10, 0, 1)];
+    let equal = |constant: i64| [addi(6, 0, constant), beq(5, 6, 8), addi(10, 0, 1)];
     let equal_second = [addi(6, 0, 5), beq(6, 5, 8), addi(10, 0, 1)];
     let falling = [addi(6, 0, 10), sub(7, 6, 5), addi(28, 0, 1), sltu(10, 7, 28)];
     vec![
@@ -229,16 +225,9 @@ fn memory() -> Vec<Example> {
     ]
 }
 
-/// Ten tests of v < 5 in a loop.
-fn ten_tests() -> Example {
-    let start = [addi(6, 0, 5), addi(7, 0, 10)];
-    let turn = [sltu(10, 5, 6), addi(7, 7, -1), beq(7, 0, 8), jal(0, -12)];
-    reading("v < 5 tested ten times", 3, 6, &[&start[..], &turn].concat()).limit(50)
-}
-
 /// Where v < 5, and there alone, does the work.
 fn where_less(work: &[u32]) -> Vec<u32> {
-    let over = 4 * (work.len() as i32 + 1);
+    let over = 4 * (work.len() as i64 + 1);
     [&[addi(6, 0, 5), sltu(28, 5, 6), beq(28, 0, over)], work].concat()
 }
 
@@ -249,7 +238,7 @@ fn slips() -> Vec<Example> {
     let ask = [addi(10, 0, 0), addi(11, 0, 8), ecall()];
     let asks = [&where_less(&ask)[..], &ask, &[ld(7, 8, 0)]].concat();
     vec![
-        ten_tests(),
+        reading("v < 5 tested ten times", 3, 6, &ten_tests()).limit(50),
         reading("a sum narrows with its input", 3, 6, &narrowed),
         reading("steps are the path's own", 3, 6, &longer).limit(9),
         reading("memory is as lent for the next piece", 3, 6, &stores).memory(&[0, 0, 7]),
@@ -307,7 +296,7 @@ fn tables() -> Vec<Table> {
 // ---------------------------------------------------------------------------------------------
 // The antt file.
 
-const END_NAMES: [&str; 9] = [
+const END_NAMES: [&str; KINDS as usize] = [
     "Exit",
     "DivisionByZero",
     "BadPc",
@@ -319,7 +308,7 @@ const END_NAMES: [&str; 9] = [
     "TraceFull",
 ];
 
-const REASON_NAMES: [&str; 7] =
+const REASON_NAMES: [&str; REASONS as usize] =
     ["BothOpen", "Multiplier", "Divisor", "DivisorOpen", "Quotients", "BaseOpen", "CallOpen"];
 
 fn end_text(kind: u64, reason: u64) -> String {
@@ -378,13 +367,15 @@ fn box_text(intervals: &[Interval]) -> String {
 
 /// The code, by its work alone where it has the common opening and closing.
 fn code_text(code: &[u32]) -> String {
-    let (opening, closing) = (opening(), closing());
-    let work = code.strip_prefix(&opening[..]).and_then(|rest| rest.strip_suffix(&closing[..]));
-    let words = |code: &[u32]| list(code.iter().map(|word| format!("0x{word:08X}")));
-    match work {
-        Some(work) => format!("(reads {})", words(work)),
-        None => words(code),
+    let rest = code.strip_prefix(&opening()[..]);
+    match rest.and_then(|rest| rest.strip_suffix(&closing()[..])) {
+        Some(work) => format!("(reads {})", words_text(work)),
+        None => words_text(code),
     }
+}
+
+fn words_text(words: &[u32]) -> String {
+    list(words.iter().map(|word| format!("0x{word:08X}")))
 }
 
 /// The registers that are not as at the start.
@@ -437,6 +428,9 @@ fn write_table(text: &mut String, table: &Table) {
 
 fn file_text(tables: &[Table]) -> String {
     let mut text = HEAD.to_string();
+    let (opening, closing) = (words_text(&opening()), words_text(&closing()));
+    writeln!(text, "    {opening} ++ work ++ {closing}").unwrap();
+    text.push_str(EXAMPLE);
     for table in tables {
         write_table(&mut text, table);
     }
@@ -461,8 +455,9 @@ use Rattle.boxes.specs.Boxes.{keep, classes, hull, piece, pieces}
 use Rattle.riscu.specs.Word.{signed, widen, powerBelow}
 use Rattle.riscu.specs.Decode.{rows, search, decodeOf}
 use Rattle.riscu.specs.Machine.{start, operate, readNext, step, fetch, stepDecoded, run}
-use Rattle.listing.specs.Group.{Job, after, sortOf, comparison, classOf}
-use Rattle.listing.specs.Ending.{first, anyPower, operationPoints, points, writes, needs, endAt, endBy}
+use Rattle.listing.specs.Group.{Job, after, sortOf, comparison, sortingOf, classBy, classOf}
+use Rattle.listing.specs.Ending.{first, anyPower, operationPoints, operandPoints, addressPoints, points}
+use Rattle.listing.specs.Ending.{writes, needs, endAt, endBy}
 use Rattle.listing.specs.Listing.{Path, pathOf, splitBy, moveBy, moveFrom, moves, begin, enough, listing}
 use Rattle.listing.specs.declared.Reason.the-variants.{BothOpen, Multiplier, Divisor, DivisorOpen}
 use Rattle.listing.specs.declared.Reason.the-variants.{Quotients, BaseOpen, CallOpen}
@@ -488,8 +483,9 @@ path e p s b n l = record { end = e; pc = p; steps = s; box = b; reads = n; regi
 -- a program that reads an input to address 0 and loads it into register 5, does some work, and exits with register 10
 abbrev pub reads : List ℕ → List ℕ
 reads work =
-    (0x03F00893 ∷ 0x00800613 ∷ 0x00000073 ∷ 0x00003283 ∷ []) ++ work ++ (0x05D00893 ∷ 0x00000073 ∷ [])
+";
 
+const EXAMPLE: &str = "
 -- code, the first words of memory (the rest are 0), limit, box and entries; and the listing
 abbrev pub example : List ℕ → List ℕ → ℕ → Box → ℕ → List Path → Job × List Path
 example c m l b n ps =
@@ -506,9 +502,9 @@ expected x = x .1
 -- the whole table, by one computation
 pub examples-right : map listed table ≡ map expected table
 unfolding listing enough moves moveFrom moveBy splitBy pathOf begin
-    endBy endAt needs writes points operationPoints powerBelow anyPower first
+    endBy endAt needs writes points addressPoints operandPoints operationPoints powerBelow anyPower first
     from width values choices flatMap size best least greatest every same low high fixed keep classes hull piece pieces
-    classOf sortOf comparison after run stepDecoded fetch step readNext operate start decodeOf search rows signed widen
+    classOf classBy sortingOf sortOf comparison after run stepDecoded fetch step readNext operate start decodeOf search rows signed widen
 examples-right = refl
 ";
 
@@ -518,10 +514,10 @@ examples-right = refl
 fn assert_covered(tables: &[Table]) {
     let examples = tables.iter().flat_map(|table| &table.examples);
     let paths: Vec<Path> = examples.flat_map(|example| oracle::listing(&example.job)).collect();
-    for kind in 1..=9 {
+    for kind in 1..=KINDS {
         assert!(paths.iter().any(|path| path.kind == kind), "no path of kind {}", kind);
     }
-    for reason in 1..=7 {
+    for reason in 1..=REASONS {
         assert!(paths.iter().any(|path| path.reason == reason), "no path of reason {}", reason);
     }
 }

@@ -3,6 +3,9 @@
 //! A group holds every choice of its box, each with a plain machine of its own; a value is fixed if
 //! all of them give the same, and pieces are made by sorting the choices. Nothing is computed from
 //! the ends of intervals alone, so it is slow and plain: boxes of up to some 100,000 choices.
+//!
+//! It is the other side of every comparison, a reading of document 01 by itself: it has a decoder, a
+//! machine, numbers and a writer of records of its own, and shares none with the tool or the crates.
 
 #![allow(dead_code)] // a program that includes this module uses a part of it
 
@@ -15,9 +18,8 @@ pub const HIGHEST_ADDRESS: u64 = 4088;
 pub const READ: u64 = 63;
 pub const EXIT: u64 = 93;
 pub const WORDS_PER_ENTRY: usize = 8;
-pub const BLOCK_WORDS: usize = 64;
-pub const BLOCK_BYTES: usize = 512;
-pub const PATH_BYTES: usize = 2 * BLOCK_BYTES;
+const BLOCK_WORDS: usize = 64;
+const BLOCK_BYTES: usize = 512;
 
 // Kinds, as document 01 numbers them.
 pub const EXITED: u64 = 1;
@@ -150,10 +152,6 @@ impl Memory {
 
     fn store(&mut self, index: usize, value: u64) {
         self.written.insert(index, value);
-    }
-
-    pub fn words(&self) -> Vec<u64> {
-        (0..MEMORY_WORDS).map(|index| self.load(index)).collect()
     }
 }
 
@@ -388,7 +386,7 @@ struct Group {
 }
 
 /// Every way to take one value from each interval.
-fn all_inputs(intervals: &[Interval]) -> Vec<Vec<u64>> {
+pub fn all_inputs(intervals: &[Interval]) -> Vec<Vec<u64>> {
     let mut all = vec![Vec::new()];
     for &(low, high) in intervals {
         let longer = |inputs: &Vec<u64>| {
@@ -706,6 +704,11 @@ pub fn listing(job: &Job) -> Vec<Path> {
 // ---------------------------------------------------------------------------------------------
 // A whole call: the questions at the door, and the report.
 
+/// A path takes two blocks, with any number of inputs.
+fn path_bytes(_inputs: usize) -> usize {
+    2 * BLOCK_BYTES
+}
+
 /// The number of the first question that is answered by no.
 pub fn door(
     code_words: usize,
@@ -723,7 +726,7 @@ pub fn door(
         (1..=65536).contains(&limit),
         table_words >= WORDS_PER_ENTRY,
         memory_words == MEMORY_WORDS,
-        report_bytes % PATH_BYTES == 0 && report_bytes > 0,
+        report_bytes % path_bytes(intervals.len() / 2) == 0 && report_bytes > 0,
         first < 1 << 32,
     ];
     let no = questions.iter().position(|&yes| !yes)?;
@@ -765,9 +768,10 @@ pub fn call(
 
 /// The paths from `first` on, as many as exist and fit.
 pub fn write_page(paths: &[Path], report: &mut [u8], first: u64) -> Answer {
+    let inputs = paths.first().map_or(0, |path| path.boxes.len());
     let wanted = paths.iter().enumerate().skip(first as usize);
     let mut count = 0;
-    for ((number, path), place) in wanted.zip(report.chunks_exact_mut(PATH_BYTES)) {
+    for ((number, path), place) in wanted.zip(report.chunks_exact_mut(path_bytes(inputs))) {
         let (head, tail) = place.split_at_mut(BLOCK_BYTES);
         write_block(head, &first_block(number as u64, path));
         write_block(tail, &second_block(number as u64, path));
@@ -818,252 +822,4 @@ fn write_block(bytes: &mut [u8], block: &[u64; BLOCK_WORDS]) {
 /// The check word of a payload.
 pub fn check(payload: &[u64]) -> u64 {
     payload.iter().fold(1, |sum: u64, word| sum.rotate_left(1).wrapping_add(*word))
-}
-
-#[cfg(test)]
-mod tests {
-    use super::*;
-
-    const JOB_A: [u32; 8] = [
-        0x03F00893, 0x00800613, 0x00000073, 0x00003283, 0x00A00313, 0x0062B533, 0x05D00893,
-        0x00000073,
-    ];
-
-    fn job(code: &[u32], low: u64, high: u64, limit: u64) -> Job {
-        let (code, intervals) = (code.to_vec(), vec![(low, high)]);
-        Job { code, memory: Vec::new(), limit, intervals, entries: 1024 }
-    }
-
-    /// Reads an input into register 5, does the work and exits with register 10.
-    fn reads(work: &[u32]) -> Vec<u32> {
-        [&JOB_A[..4], work, &JOB_A[6..]].concat()
-    }
-
-    /// Kind, reason, pc, steps, the one input and register 10 of each path.
-    fn lines(job: &Job) -> Vec<(u64, u64, u64, u64, Interval, Interval)> {
-        let line = |path: Path| {
-            let (input, value) = (path.boxes[0], path.registers[10]);
-            (path.kind, path.reason, path.pc, path.steps, input, value)
-        };
-        listing(job).into_iter().map(line).collect()
-    }
-
-    /// The box and the exit value of each path; all of them exit.
-    fn exits(work: &[u32], low: u64, high: u64) -> Vec<(Interval, Interval)> {
-        let lines = lines(&job(&reads(work), low, high, 100));
-        assert!(lines.iter().all(|line| line.0 == EXITED));
-        lines.into_iter().map(|line| (line.4, line.5)).collect()
-    }
-
-    #[test]
-    fn job_a_has_two_paths() {
-        let expected = [(EXITED, 0, 28, 7, (0, 9), (1, 1)), (EXITED, 0, 28, 7, (10, 255), (0, 0))];
-        assert_eq!(lines(&job(&JOB_A, 0, 255, 100)), expected);
-    }
-
-    #[test]
-    fn limit_5_ends_job_a_before_its_fork() {
-        let expected = [(STEP_LIMIT, 0, 20, 5, (0, 255), (8, 8))];
-        assert_eq!(lines(&job(&JOB_A, 0, 255, 5)), expected);
-    }
-
-    #[test]
-    fn limit_7_ends_job_a_after_its_fork() {
-        let expected =
-            [(STEP_LIMIT, 0, 28, 7, (0, 9), (1, 1)), (STEP_LIMIT, 0, 28, 7, (10, 255), (0, 0))];
-        assert_eq!(lines(&job(&JOB_A, 0, 255, 7)), expected);
-    }
-
-    #[test]
-    fn one_entry_ends_job_a_at_4() {
-        let mut job = job(&JOB_A, 0, 255, 100);
-        job.entries = 1;
-        assert_eq!(lines(&job), [(TRACE_FULL, 0, 4, 1, (0, 255), (0, 0))]);
-    }
-
-    #[test]
-    fn a_falling_value_has_its_pieces_in_order_of_the_input() {
-        // 10 - v < 1
-        let work = [0x00A00313, 0x405303B3, 0x00100E13, 0x01C3B533];
-        let expected = [((0, 9), (0, 0)), ((10, 10), (1, 1)), ((11, 255), (0, 0))];
-        assert_eq!(exits(&work, 0, 255), expected);
-    }
-
-    #[test]
-    fn a_sum_forks_where_it_wraps() {
-        // v + 5
-        let expected = [
-            ((u64::MAX - 200, u64::MAX - 5), (u64::MAX - 195, u64::MAX)),
-            ((u64::MAX - 4, u64::MAX), (0, 4)),
-        ];
-        assert_eq!(exits(&[0x00528513], u64::MAX - 200, u64::MAX), expected);
-    }
-
-    #[test]
-    fn a_product_forks_where_it_wraps() {
-        // v * 2, then v * 4
-        let half = 1 << 63;
-        let expected =
-            [((half - 3, half - 1), (u64::MAX - 5, u64::MAX - 1)), ((half, half), (0, 0))];
-        assert_eq!(exits(&[0x00200313, 0x02628533], half - 3, half), expected);
-        let quarter = half >> 1;
-        let expected = [
-            ((quarter - 1, quarter - 1), (u64::MAX - 3, u64::MAX - 3)),
-            ((quarter, quarter + 1), (0, 4)),
-        ];
-        assert_eq!(exits(&[0x00400313, 0x02628533], quarter - 1, quarter + 1), expected);
-    }
-
-    #[test]
-    fn remainders_by_5() {
-        let work = [0x00500313, 0x0262F533];
-        assert_eq!(exits(&work, 3, 6), [((3, 4), (3, 4)), ((5, 6), (0, 1))]);
-        assert_eq!(exits(&work, 3, 7), [((3, 4), (3, 4)), ((5, 7), (0, 2))]);
-        let expected = [(NOT_FOLLOWED, QUOTIENTS, 20, 5, (0, 10), (8, 8))];
-        assert_eq!(lines(&job(&reads(&work), 0, 10, 100)), expected);
-    }
-
-    #[test]
-    fn one_piece_where_nothing_changes() {
-        // v + v for a fixed v; v < 0
-        assert_eq!(exits(&[0x00528533], 5, 5), [((5, 5), (10, 10))]);
-        assert_eq!(exits(&[0x0002B533], 0, 255), [((0, 255), (0, 0))]);
-    }
-
-    #[test]
-    fn ten_tests_of_one_value_have_two_paths() {
-        // a counter in register 7; v < 5 in each turn
-        let work = [0x00500313, 0x00A00393, 0x0062B533, 0xFFF38393, 0x00038463, 0xFF5FF06F];
-        assert_eq!(exits(&work, 0, 255), [((0, 4), (1, 1)), ((5, 255), (0, 0))]);
-    }
-
-    #[test]
-    fn check_of_an_empty_payload() {
-        assert_eq!(check(&[0; BLOCK_WORDS - 1]), 0x8000000000000000);
-    }
-
-    #[test]
-    fn the_questions_come_in_order() {
-        assert_eq!(door(0, &[1], 0, 7, 0, 0, 1 << 32), Some(1));
-        assert_eq!(door(1, &[1, 0, 1], 0, 7, 0, 0, 1 << 32), Some(2));
-        assert_eq!(door(1, &[0; 18], 0, 7, 0, 0, 1 << 32), Some(2));
-        assert_eq!(door(1, &[1, 0], 0, 7, 0, 0, 1 << 32), Some(3));
-        assert_eq!(door(1, &[], 65537, 7, 0, 0, 1 << 32), Some(4));
-        assert_eq!(door(1, &[], 65536, 7, 0, 0, 1 << 32), Some(5));
-        assert_eq!(door(1, &[], 1, 8, 511, 0, 1 << 32), Some(6));
-        assert_eq!(door(1, &[], 1, 8, 512, 512, 1 << 32), Some(7));
-        assert_eq!(door(1, &[], 1, 8, 512, 1024, 1 << 32), Some(8));
-        assert_eq!(door(1024, &[0; 16], 1, 8, 512, 1024, (1 << 32) - 1), None);
-    }
-
-    /// Word k of a report.
-    fn word(report: &[u8], k: usize) -> u64 {
-        let mut bytes = [0; 8];
-        bytes.copy_from_slice(&report[8 * k..8 * k + 8]);
-        u64::from_le_bytes(bytes)
-    }
-
-    #[test]
-    fn a_page_of_job_a() {
-        let mut report = [0xEE; 3 * PATH_BYTES];
-        let answer = call(&JOB_A, &[0; 512], &[0, 255], 100, 8192, &mut report, 1);
-        assert_eq!(answer, Answer { refusal: 0, count: 1, more: false });
-        let head: Vec<u64> = (0..6).map(|k| word(&report, k)).collect();
-        assert_eq!(head, [1, EXITED, 28, 7, 1, 10]);
-        assert_eq!((word(&report, 13), word(&report, 24)), (255, 1));
-        // registers 2 and 17 in the second block
-        assert_eq!((word(&report, 64 + 3), word(&report, 64 + 4)), (4096, 4096));
-        assert_eq!((word(&report, 64 + 33), word(&report, 64 + 34)), (93, 93));
-        for block in 0..2 {
-            let payload: Vec<u64> = (0..63).map(|k| word(&report, 64 * block + k)).collect();
-            assert_eq!(word(&report, 64 * block + 63), check(&payload));
-        }
-        assert!(report[PATH_BYTES..].iter().all(|&byte| byte == 0xEE));
-    }
-
-    #[test]
-    fn pages_of_job_a() {
-        let mut report = [0xEE; PATH_BYTES];
-        let mut page = |first| call(&JOB_A, &[0; 512], &[0, 255], 100, 8192, &mut report, first);
-        assert_eq!(page(0), Answer { refusal: 0, count: 1, more: true });
-        assert_eq!(page(1), Answer { refusal: 0, count: 1, more: false });
-        assert_eq!(page(2), Answer { refusal: 0, count: 0, more: false });
-        assert_eq!(page(1 << 32), Answer { refusal: 8, count: 0, more: false });
-    }
-
-    #[test]
-    fn a_plain_run_of_job_a() {
-        let run = run_plain(&JOB_A, &[0; 512], &[u64::MAX], 100);
-        assert_eq!((run.stop, run.steps, run.machine.pc), (Some(EXITED), 7, 28));
-        assert_eq!((run.machine.reads, run.machine.memory.load(0)), (1, u64::MAX));
-        let run = run_plain(&JOB_A, &[0; 512], &[9], 6);
-        assert_eq!((run.stop, run.steps, run.machine.registers[10]), (None, 6, 1));
-    }
-
-    /// Numbers by xorshift: the same in every run.
-    struct Random(u64);
-
-    impl Random {
-        fn below(&mut self, bound: usize) -> usize {
-            self.0 ^= self.0 << 13;
-            self.0 ^= self.0 >> 7;
-            self.0 ^= self.0 << 17;
-            (self.0 >> 20) as usize % bound
-        }
-
-        fn pick<T: Copy>(&mut self, from: &[T]) -> T {
-            from[self.below(from.len())]
-        }
-
-        /// ADD, SUB, MUL, DIVU, REMU, SLTU, BEQ, ADDI, LD or SD on a few registers.
-        fn word(&mut self) -> u32 {
-            let rows = [0x33, 0x40000033, 0x02000033, 0x02005033, 0x02007033, 0x3033];
-            let short = [0x463, 0x13, 0x00300013, 0xFFD00013, 0x3003, 0x3023];
-            let (rd, rs1) = (self.pick(&[0, 6, 10, 10, 28]), self.pick(&[0, 5, 5, 6, 10]));
-            let word = self.pick(&[rows, short].concat());
-            match word & 0x7F {
-                0x63 | 0x23 => word | rs1 << 15 | self.pick(&[0, 5, 6, 28]) << 20,
-                0x33 => word | rd << 7 | rs1 << 15 | self.pick(&[0, 5, 6, 28]) << 20,
-                _ => word | rd << 7 | rs1 << 15,
-            }
-        }
-
-        fn job(&mut self) -> Job {
-            // register 6 starts with 0 to 9
-            let constant = (self.below(10) as u32) << 20 | 6 << 7 | 0x13;
-            let work: Vec<u32> = (0..3 + self.below(6)).map(|_| self.word()).collect();
-            let low = self.pick(&[0, 3, (1 << 63) - 4, u64::MAX - 9]);
-            let mut job = job(&reads(&[&[constant], &work[..]].concat()), low, low + 9, 100);
-            job.limit = 6 + self.below(10) as u64;
-            job.entries = 6 + self.below(10) as u64;
-            job
-        }
-    }
-
-    /// The plain machine has the path's end for this choice.
-    fn agrees(job: &Job, path: &Path, inputs: &[u64]) -> bool {
-        // kinds 7, 8 and 9 stop the engine and not the machine
-        let stop = if path.kind < STEP_LIMIT { Some(path.kind) } else { None };
-        let steps = path.steps + stop.is_some() as u64;
-        let run = run_plain(&job.code, &job.memory, inputs, steps);
-        let within = |(value, ends): (&u64, &Interval)| ends.0 <= *value && *value <= ends.1;
-        (run.stop, run.steps, run.machine.pc) == (stop, path.steps, path.pc)
-            && run.machine.reads as u64 == path.reads
-            && run.machine.registers.iter().zip(&path.registers).all(within)
-    }
-
-    #[test]
-    fn plain_runs_agree_with_their_paths() {
-        let mut random = Random(88172645463325252);
-        for _ in 0..3000 {
-            let job = random.job();
-            let paths = listing(&job);
-            for inputs in all_inputs(&job.intervals) {
-                let has = |path: &&Path| (path.boxes[0].0..=path.boxes[0].1).contains(&inputs[0]);
-                let owners: Vec<&Path> = paths.iter().filter(has).collect();
-                assert_eq!(owners.len(), 1, "{:?} lies in one path's box", inputs);
-                assert!(agrees(&job, owners[0], &inputs), "{:?} {:?}", job, inputs);
-            }
-        }
-    }
 }

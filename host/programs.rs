@@ -1,41 +1,9 @@
 //! Random programs and boxes, made so that forks, loops, memory and every end occur often.
 
-use crate::assembler::*;
-use crate::oracle::{decode, Instruction, Interval, Operation, MEMORY_WORDS};
-
-/// Numbers by splitmix64: the same in every run from the same seed.
-pub struct Random(pub u64);
-
-impl Random {
-    pub fn next(&mut self) -> u64 {
-        self.0 = self.0.wrapping_add(0x9E3779B97F4A7C15);
-        let mut z = self.0;
-        z = (z ^ (z >> 30)).wrapping_mul(0xBF58476D1CE4E5B9);
-        z = (z ^ (z >> 27)).wrapping_mul(0x94D049BB133111EB);
-        z ^ (z >> 31)
-    }
-
-    pub fn below(&mut self, bound: usize) -> usize {
-        (self.next() >> 11) as usize % bound
-    }
-
-    pub fn pick<T: Copy>(&mut self, from: &[T]) -> T {
-        from[self.below(from.len())]
-    }
-
-    /// True once in `turns` on average.
-    pub fn once_in(&mut self, turns: usize) -> bool {
-        self.below(turns) == 0
-    }
-
-    /// Both ends included.
-    pub fn between(&mut self, (low, high): Interval) -> u64 {
-        match (high - low).checked_add(1) {
-            Some(width) => low + self.next() % width,
-            None => self.next(),
-        }
-    }
-}
+use formats::assembler::*;
+use formats::blocks::Interval;
+use formats::limits::MEMORY_WORDS;
+use formats::random::Random;
 
 // ---------------------------------------------------------------------------------------------
 // Boxes.
@@ -125,7 +93,7 @@ struct Writer<'a> {
 pub fn program(random: &mut Random, inputs: usize) -> Vec<u32> {
     let mut writer = Writer { random, code: Vec::new(), reads: 0 };
     for (place, register) in CONSTANTS.into_iter().enumerate() {
-        writer.code.push(ld(register, 8 * (FIRST_CONSTANT + place) as i32, 0));
+        writer.code.push(ld(register, 8 * (FIRST_CONSTANT + place) as i64, 0));
     }
     // at times fewer than there are, at times one more
     let wanted = [inputs, inputs, inputs, inputs, inputs + 1, inputs / 2];
@@ -156,12 +124,9 @@ impl Writer<'_> {
         }
     }
 
-    /// Reads the next input to a word of its own, and loads it.
     fn read(&mut self) {
-        let (address, register) = (8 * self.reads as i32, VALUES[self.reads as usize % 7]);
-        let call = [addi(17, 0, 63), addi(12, 0, 8), addi(10, 0, 0), addi(11, 0, address)];
-        self.code.extend(call);
-        self.code.extend([ecall(), ld(register, address, 0)]);
+        let register = VALUES[self.reads as usize % 7];
+        self.code.extend(read(self.reads, register));
         self.reads += 1;
     }
 
@@ -237,7 +202,7 @@ impl Writer<'_> {
     }
 
     fn counted_loop(&mut self) {
-        let turns = 1 + self.random.below(6) as i32;
+        let turns = 1 + self.random.below(6) as i64;
         self.code.push(addi(COUNTER, 0, turns));
         let start = self.code.len();
         for _ in 0..1 + self.random.below(3) {
@@ -245,7 +210,7 @@ impl Writer<'_> {
         }
         self.code.extend([addi(COUNTER, COUNTER, -1), beq(COUNTER, 0, 8)]);
         let back = self.code.len() - start;
-        self.code.push(jal(0, -4 * back as i32));
+        self.code.push(jal(0, -4 * back as i64));
     }
 
     /// Adds to a value while it is below a constant: a fork in each turn.
@@ -302,43 +267,4 @@ impl Writer<'_> {
         ];
         self.code.extend(self.random.pick(&words));
     }
-}
-
-// ---------------------------------------------------------------------------------------------
-// Programs as text.
-
-fn operation_name(operation: Operation) -> &'static str {
-    match operation {
-        Operation::Add => "add",
-        Operation::Sub => "sub",
-        Operation::Mul => "mul",
-        Operation::Divu => "divu",
-        Operation::Remu => "remu",
-        Operation::Sltu => "sltu",
-    }
-}
-
-fn instruction_text(word: u32) -> String {
-    let Some(instruction) = decode(word) else { return "no row".to_string() };
-    match instruction {
-        Instruction::Lui { rd, imm } => format!("lui x{rd}, {}", imm as i64),
-        Instruction::Addi { rd, rs1, imm } => format!("addi x{rd}, x{rs1}, {}", imm as i64),
-        Instruction::Register { operation, rd, rs1, rs2 } => {
-            format!("{} x{rd}, x{rs1}, x{rs2}", operation_name(operation))
-        }
-        Instruction::Ld { rd, rs1, imm } => format!("ld x{rd}, {}(x{rs1})", imm as i64),
-        Instruction::Sd { rs1, rs2, imm } => format!("sd x{rs2}, {}(x{rs1})", imm as i64),
-        Instruction::Beq { rs1, rs2, imm } => format!("beq x{rs1}, x{rs2}, {}", imm as i64),
-        Instruction::Jal { rd, imm } => format!("jal x{rd}, {}", imm as i64),
-        Instruction::Jalr { rd, rs1, imm } => format!("jalr x{rd}, {}(x{rs1})", imm as i64),
-        Instruction::Ecall => "ecall".to_string(),
-    }
-}
-
-/// A line for each word: its address, the word, the instruction.
-pub fn code_text(code: &[u32]) -> String {
-    let line = |(k, &word): (usize, &u32)| {
-        format!("  {:4}  {word:08X}  {}\n", 4 * k, instruction_text(word))
-    };
-    code.iter().enumerate().map(line).collect()
 }

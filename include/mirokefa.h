@@ -22,11 +22,13 @@ extern "C" {
 #define MIROKEFA_ENTRY_WORDS 8          /* table words that make one trace entry */
 #define MIROKEFA_BLOCK_WORDS 64         /* words of 64 bits in a block, the last one its check */
 #define MIROKEFA_BLOCK_BYTES 512        /* bytes of a block */
-#define MIROKEFA_PATH_BYTES 1024        /* bytes of a path in the report: two blocks */
+#define MIROKEFA_MOST_BLOCKS 19         /* a job has 1 to so many blocks */
+#define MIROKEFA_PATH_BYTES(inputs) 1024 /* bytes of a path in the report, by the input count: two blocks for up to 8 */
 #define MIROKEFA_PATH_NUMBERS (UINT64_C(1) << 32) /* the first path wanted is below this */
 
-/* The table of the course's program; a larger one follows longer paths. */
+/* The table and the page of the course's program; a larger table follows longer paths. */
 #define MIROKEFA_USUAL_TABLE_WORDS 8192
+#define MIROKEFA_USUAL_PAGE_PATHS 64
 
 /* ---- Refusals ---- */
 

@@ -1,35 +1,20 @@
 //! Makes, shows and explores jobs. Exploring is done by the proved library; the rest is not proved.
 
-mod blocks;
-mod instruction;
-mod job;
-#[path = "../host/library.rs"]
 mod library;
-mod numbers;
-#[cfg(test)]
-mod random;
-mod report;
-mod show;
-mod source;
-#[cfg(test)]
-mod source_tests;
 
-use job::{Job, MOST_BLOCKS};
-use report::{Shown, PATH_BYTES};
+use formats::blocks::flat;
+use formats::job::{self, Job};
+use formats::limits::{
+    path_bytes, BLOCK_BYTES, MOST_BLOCKS, MOST_INPUTS, USUAL_PAGE_PATHS, USUAL_TABLE_WORDS,
+};
+use formats::report::{self, Shown};
+use formats::{numbers, show, source};
 use std::fs::File;
 use std::io::{Read, Write};
 use std::process::ExitCode;
 
-const USAGE: &str = "\
-usage: mirokefa-job make FILE.s > FILE.job
-       mirokefa-job show FILE.s|FILE.job
-       mirokefa-job report FILE.report
-       mirokefa-job explore FILE.s|FILE.job [--first N] [--paths N] [--registers] [--report FILE]
-";
+const USAGE: &str = include_str!("usage.txt");
 
-/// The program's table and report, as document 01 sets them.
-const TABLE_WORDS: usize = 8192;
-const PAGE_PATHS: usize = 64;
 /// Larger pages are not worth their memory: ask for the next one.
 const MOST_PAGE_PATHS: u64 = 65_536;
 const MOST_SOURCE_BYTES: usize = 1 << 24;
@@ -93,7 +78,7 @@ fn read_job(name: &str) -> Result<std::result::Result<Job, u64>> {
     if name.ends_with(".s") {
         return read_source(name).map(Ok);
     }
-    Ok(job::read(&read_file(name, MOST_BLOCKS * blocks::BLOCK_BYTES)?))
+    Ok(job::read(&read_file(name, MOST_BLOCKS * BLOCK_BYTES)?))
 }
 
 // ---------------------------------------------------------------------------------------------
@@ -109,7 +94,7 @@ fn show(name: &str) -> Result<Output> {
 }
 
 fn report(name: &str) -> Result<Output> {
-    let bytes = read_file(name, MOST_PAGE_PATHS as usize * PATH_BYTES)?;
+    let bytes = read_file(name, MOST_PAGE_PATHS as usize * path_bytes(MOST_INPUTS))?;
     let (text, faults) = report::report_text(&bytes).map_err(|message| fault(name, message))?;
     Ok(Output { status: if faults > 0 { FAULT } else { 0 }, ..output(text) })
 }
@@ -123,7 +108,8 @@ struct Options {
 }
 
 fn options(arguments: &[String]) -> Result<Options> {
-    let mut options = Options { first: None, paths: PAGE_PATHS, shown: Shown::None, report: None };
+    let (paths, shown) = (USUAL_PAGE_PATHS, Shown::None);
+    let mut options = Options { first: None, paths, shown, report: None };
     let mut left = arguments.iter();
     while let Some(argument) = left.next() {
         match (argument.as_str(), &mut left) {
@@ -159,12 +145,13 @@ fn explore(name: &str, arguments: &[String]) -> Result<Output> {
 }
 
 fn explore_job(job: &Job, options: &Options) -> Result<Output> {
-    let mut table = vec![0; TABLE_WORDS];
-    let mut page = vec![0; options.paths * PATH_BYTES];
+    let mut table = vec![0; USUAL_TABLE_WORDS];
+    let size = path_bytes(job.intervals.len());
+    let mut page = vec![0; options.paths * size];
     let reply = library::explore(
         &job.code,
         &job.whole_memory(),
-        &job.flat_intervals(),
+        &flat(&job.intervals),
         job.limit,
         &mut table,
         &mut page,
@@ -176,9 +163,10 @@ fn explore_job(job: &Job, options: &Options) -> Result<Output> {
     if let Some(name) = &options.report {
         std::fs::write(name, &page).map_err(|error| fault(name, error))?;
     }
-    page.truncate(reply.count as usize * PATH_BYTES);
-    let listing = report::listing(&page, reply.more != 0, options.shown);
-    listing.map(output).map_err(|message| fault("the library's report", message))
+    let written = &page[..reply.count as usize * size];
+    let records = report::read_pages(written, job.intervals.len());
+    let records = records.map_err(|message| fault("the library's report", message))?;
+    Ok(output(report::listing(&records, reply.more != 0, options.shown)))
 }
 
 // ---------------------------------------------------------------------------------------------
@@ -186,12 +174,14 @@ fn explore_job(job: &Job, options: &Options) -> Result<Output> {
 
 fn run(arguments: &[String]) -> Result<Output> {
     let words: Vec<&str> = arguments.iter().map(String::as_str).collect();
+    if words == ["help"] || words.iter().any(|word| ["--help", "-h"].contains(word)) {
+        return Ok(output(USAGE));
+    }
     match words[..] {
         ["make", name] => make(name),
         ["show", name] => show(name),
         ["report", name] => report(name),
         ["explore", name, ..] => explore(name, &arguments[2..]),
-        ["help" | "--help" | "-h"] => Ok(output(USAGE)),
         _ => Err(USAGE.to_string()),
     }
 }
@@ -210,14 +200,11 @@ fn main() -> ExitCode {
 #[cfg(test)]
 mod tests {
     use super::*;
+    use formats::assembler::job_a;
+    use formats::blocks;
+    use formats::limits::PAYLOAD_WORDS;
 
-    const JOB_A_LISTING: &str = "paths 2 more 0\n\
-        path 0 end 1 at 28 steps 7 in 0..9 exit 1..1\n\
-        path 1 end 1 at 28 steps 7 in 10..255 exit 0..0\n";
-
-    fn job_a() -> Job {
-        source::assemble(include_str!("../jobs/job-a.s")).unwrap()
-    }
+    const JOB_A_LISTING: &str = include_str!("../jobs/job-a.out");
 
     fn listing_of(job: &Job, words: &[&str]) -> String {
         let words: Vec<String> = words.iter().map(|word| word.to_string()).collect();
@@ -256,14 +243,13 @@ mod tests {
     #[test]
     fn damaged_jobs_are_listed_or_refused() {
         let mut listed = 0;
-        for bit in 0..64 * 63 * 2 {
+        let bits = 64 * PAYLOAD_WORDS;
+        for bit in 0..2 * bits {
             let mut bytes = job_a().to_bytes();
-            let block = &mut bytes[bit / (64 * 63) * 512..][..512];
-            block[bit / 8 % 504] ^= 1 << (bit % 8);
-            let words =
-                block[..504].chunks(8).map(|word| u64::from_le_bytes(word.try_into().unwrap()));
-            let sum = blocks::check(&words.collect::<Vec<u64>>());
-            block[504..].copy_from_slice(&sum.to_le_bytes());
+            let block = &mut bytes[bit / bits * BLOCK_BYTES..][..BLOCK_BYTES];
+            block[bit % bits / 8] ^= 1 << (bit % 8);
+            let words: Vec<u64> = block.chunks(8).take(PAYLOAD_WORDS).map(blocks::word).collect();
+            block.copy_from_slice(&blocks::to_bytes(&words));
             if let Ok(job) = job::read(&bytes) {
                 assert!(listing_of(&job, &["--paths", "3"]).starts_with("paths "));
                 listed += 1;
@@ -280,6 +266,11 @@ mod tests {
         for words in [&[][..], &["make"], &["make", "a", "b"], &["explore"], &["list", "a"]] {
             assert_eq!(run_words(words).err().as_deref(), Some(USAGE));
         }
+        for words in [&["help"][..], &["-h"], &["--help"], &["make", "-h"], &["explore", "--help"]]
+        {
+            assert_eq!(run_words(words).unwrap().out, USAGE.as_bytes());
+        }
+        assert!(USAGE.contains(&format!("and not of {USUAL_PAGE_PATHS}\n")));
         for words in
             [&["--first"][..], &["--first", "x"], &["--paths", "65537"], &["--report"], &["-x"]]
         {

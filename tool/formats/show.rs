@@ -26,7 +26,7 @@ pub fn job_text(job: &Job) -> String {
 }
 
 /// The instruction, then its address, its word and where it may jump to.
-fn code_line(address: i64, word: u32) -> String {
+pub fn code_line(address: i64, word: u32) -> String {
     let (shown, note) = match decode(word) {
         Some(instruction) => (text(&instruction), target_text(&instruction, address)),
         None => (format!(".code {word:#010X}"), "  no instruction".to_string()),
@@ -44,6 +44,8 @@ fn target_text(instruction: &Instruction, address: i64) -> String {
 #[cfg(test)]
 mod tests {
     use super::*;
+    use crate::assembler::job_a;
+    use crate::job::random_job;
     use crate::random::Random;
     use crate::source::assemble;
 
@@ -51,10 +53,10 @@ mod tests {
 
     #[test]
     fn job_a_is_shown_with_its_addresses() {
-        let job = assemble(include_str!("../jobs/job-a.s")).unwrap();
-        let shown = job_text(&job);
+        let shown = job_text(&job_a());
         assert!(shown.starts_with("# code words 8, inputs 1, memory words given 0\n.limit 100\n"));
-        assert!(shown.contains("\n.input 0..255\n    addi a7, zero, 63        #    0: 03F00893\n"));
+        let first = format!("addi a7, zero, 63        #    0: {:08X}\n", job_a().code[0]);
+        assert!(shown.contains(&format!("\n.input 0..255\n    {first}")), "{shown}");
         assert!(shown.ends_with("\n    ecall                    #   28: 00000073\n"), "{shown}");
     }
 
@@ -70,15 +72,8 @@ mod tests {
     fn a_shown_job_assembles_to_the_same_job() {
         let mut random = Random(6);
         for _ in 0..200 {
-            let opcode = |random: &mut Random| OPCODES[random.below(OPCODES.len())];
-            let word = |random: &mut Random| random.next() as u32 & !0x7F | opcode(random);
-            let job = Job {
-                code: (0..1 + random.below(1024)).map(|_| word(&mut random)).collect(),
-                intervals: (0..random.below(9)).map(|_| (random.next() / 2, u64::MAX)).collect(),
-                limit: 1 + random.below(65_536) as u64,
-                first: random.next() >> 32,
-                memory: (0..random.below(513)).map(|_| random.next()).collect(),
-            };
+            let mut job = random_job(&mut random);
+            job.code.iter_mut().for_each(|word| *word = *word & !0x7F | random.pick(&OPCODES));
             assert_eq!(assemble(&job_text(&job)), Ok(job));
         }
     }

@@ -1,5 +1,7 @@
 //! The fourteen instructions: their words, and their text.
 
+use crate::limits::REGISTERS;
+
 /// What a row's operands are; each form has its own places for them in the word.
 #[derive(Clone, Copy, Debug, PartialEq, Eq)]
 pub enum Form {
@@ -45,7 +47,7 @@ pub const ROWS: [Row; 14] = [
     row("ecall", Form::Call, 115, 0, 0),
 ];
 
-const REGISTER_NAMES: [&str; 32] = [
+const REGISTER_NAMES: [&str; REGISTERS] = [
     "zero", "ra", "sp", "gp", "tp", "t0", "t1", "t2", "s0", "s1", "a0", "a1", "a2", "a3", "a4",
     "a5", "a6", "a7", "s2", "s3", "s4", "s5", "s6", "s7", "s8", "s9", "s10", "s11", "t3", "t4",
     "t5", "t6",
@@ -66,7 +68,7 @@ pub struct Instruction {
 // Registers.
 
 pub fn register_name(register: u32) -> &'static str {
-    REGISTER_NAMES[register as usize % 32]
+    REGISTER_NAMES[register as usize % REGISTERS]
 }
 
 /// x0 to x31, the names of the calling convention, and fp for s0.
@@ -74,16 +76,19 @@ pub fn register_number(name: &str) -> Option<u32> {
     if name == "fp" {
         return Some(8);
     }
-    (0..32).find(|&register| name == register_name(register) || name == format!("x{register}"))
+    (0..REGISTERS as u32)
+        .find(|&register| name == register_name(register) || name == format!("x{register}"))
 }
 
 // ---------------------------------------------------------------------------------------------
 // Words.
 
-fn bits(word: u32, from: u32, count: u32) -> u32 {
+#[inline]
+pub fn bits(word: u32, from: u32, count: u32) -> u32 {
     (word >> from) & ((1 << count) - 1)
 }
 
+#[inline]
 fn sign_extend(value: u32, width: u32) -> i64 {
     let unused = 64 - width;
     ((value as i64) << unused) >> unused
@@ -147,7 +152,9 @@ fn row_has(row: &Row, word: u32) -> bool {
     }
 }
 
-fn immediate(form: Form, word: u32) -> i64 {
+/// The number that a word of this form carries.
+#[inline]
+pub fn immediate(form: Form, word: u32) -> i64 {
     match form {
         Form::Upper => sign_extend(word & 0xFFFFF000, 32),
         Form::Immediate | Form::Load | Form::JumpRegister => sign_extend(bits(word, 20, 12), 12),
@@ -158,11 +165,13 @@ fn immediate(form: Form, word: u32) -> i64 {
     }
 }
 
+#[inline]
 fn branch_immediate(word: u32) -> i64 {
     let high = bits(word, 31, 1) << 12 | bits(word, 7, 1) << 11;
     sign_extend(high | bits(word, 25, 6) << 5 | bits(word, 8, 4) << 1, 13)
 }
 
+#[inline]
 fn jump_immediate(word: u32) -> i64 {
     let high = bits(word, 31, 1) << 20 | bits(word, 12, 8) << 12;
     sign_extend(high | bits(word, 20, 1) << 11 | bits(word, 21, 10) << 1, 21)
@@ -195,7 +204,7 @@ mod tests {
     use crate::source::assemble;
 
     /// A word to a line, with its row and fields in hex; the RISC-V assembler made the words.
-    const VECTORS: &str = include_str!("../crates/decoder_tests/stdin");
+    const VECTORS: &str = include_str!("../../crates/decoder_tests/stdin");
     const NO_ROW: u64 = 14;
 
     fn vectors() -> Vec<(u32, Option<Instruction>)> {

@@ -1,16 +1,26 @@
-//! A report's records of 1,024 bytes, and the lines of the listing.
+//! A report's records, one for each path, and the lines of the listing.
 
-use crate::blocks::{payload, Interval, BLOCK_BYTES};
+use crate::blocks::{intervals, payload, word, Interval};
 use crate::instruction::register_name;
-use crate::job::MOST_INPUTS;
-use crate::numbers::{kind_text, reason_text};
+use crate::limits::{path_bytes, BLOCK_BYTES, MOST_INPUTS, REGISTERS};
+use crate::numbers::{kind_text, reason_text, KINDS};
 use std::fmt::Write;
 
-pub const PATH_BYTES: usize = 2 * BLOCK_BYTES;
+// The words of a path's first block, beside the lows and highs; its second block has the number too.
+const NUMBER: usize = 0;
+const KIND: usize = 1;
+const PC: usize = 2;
+const STEPS: usize = 3;
+const INPUT_COUNT: usize = 4;
+const EXIT_LOW: usize = 21;
+const EXIT_HIGH: usize = 22;
+const REASON: usize = 23;
+const INPUTS_READ: usize = 24;
+
 const EXITED: u64 = 1;
 const NOT_FOLLOWED: u64 = 8;
 
-/// A path as its two blocks give it; register 0 is 0..0.
+/// A path as its record gives it; register 0 is 0..0.
 #[derive(Clone, Debug, PartialEq, Eq)]
 pub struct Record {
     pub number: u64,
@@ -21,7 +31,7 @@ pub struct Record {
     pub exit: Interval,
     pub reason: u64,
     pub reads: u64,
-    pub registers: [Interval; 32],
+    pub registers: [Interval; REGISTERS],
 }
 
 /// Which registers are shown with a path.
@@ -35,39 +45,51 @@ pub enum Shown {
 // ---------------------------------------------------------------------------------------------
 // Reading.
 
-/// The path in 1,024 bytes, or what is wrong with them.
+/// The path of a record, or what is wrong with its bytes.
 pub fn read(bytes: &[u8]) -> Result<Record, String> {
     let (first, second) = bytes.split_at(BLOCK_BYTES.min(bytes.len()));
     let first = payload(first).ok_or("the first block's check does not agree")?;
     let second = payload(second).ok_or("the second block's check does not agree")?;
-    if first[0] != second[0] {
-        return Err(format!("its blocks belong to paths {} and {}", first[0], second[0]));
+    let (number, again) = (first[NUMBER], second[NUMBER]);
+    if number != again {
+        return Err(format!("its blocks belong to paths {number} and {again}"));
     }
-    if first[4] > MOST_INPUTS as u64 {
-        return Err(format!("it has {} inputs", first[4]));
+    if first[INPUT_COUNT] > MOST_INPUTS as u64 {
+        return Err(format!("it has {} inputs", first[INPUT_COUNT]));
     }
-    if !(1..=9).contains(&first[1]) {
-        return Err(format!("it has kind {}", first[1]));
+    if !(1..=KINDS).contains(&first[KIND]) {
+        return Err(format!("it has kind {}", first[KIND]));
     }
     Ok(record(&first, &second))
 }
 
 fn record(first: &[u64], second: &[u64]) -> Record {
-    let mut registers = [(0, 0); 32];
+    let mut registers = [(0, 0); REGISTERS];
     for (register, value) in registers.iter_mut().enumerate().skip(1) {
         *value = (second[2 * register - 1], second[2 * register]);
     }
     Record {
-        number: first[0],
-        kind: first[1],
-        pc: first[2],
-        steps: first[3],
-        intervals: (0..first[4] as usize).map(|k| (first[5 + k], first[13 + k])).collect(),
-        exit: (first[21], first[22]),
-        reason: first[23],
-        reads: first[24],
+        number: first[NUMBER],
+        kind: first[KIND],
+        pc: first[PC],
+        steps: first[STEPS],
+        intervals: intervals(first, first[INPUT_COUNT] as usize),
+        exit: (first[EXIT_LOW], first[EXIT_HIGH]),
+        reason: first[REASON],
+        reads: first[INPUTS_READ],
         registers,
     }
+}
+
+/// The paths of whole pages of a job with so many inputs.
+pub fn read_pages(bytes: &[u8], inputs: usize) -> Result<Vec<Record>, String> {
+    bytes.chunks(path_bytes(inputs)).map(read).collect()
+}
+
+/// The input count that a report's first record names, none of a report that is shorter.
+fn inputs_of(report: &[u8]) -> usize {
+    let words = report.chunks_exact(8);
+    words.map(word).nth(INPUT_COUNT).unwrap_or(0) as usize
 }
 
 // ---------------------------------------------------------------------------------------------
@@ -110,22 +132,22 @@ fn end_line(record: &Record) -> String {
 }
 
 /// The listing of a page that the library has written.
-pub fn listing(page: &[u8], more: bool, shown: Shown) -> Result<String, String> {
-    let mut text = format!("paths {} more {}\n", page.len() / PATH_BYTES, more as u64);
-    for bytes in page.chunks(PATH_BYTES) {
-        let record = read(bytes)?;
-        text += &(line(&record) + &register_lines(&record, shown));
+pub fn listing(page: &[Record], more: bool, shown: Shown) -> String {
+    let mut text = format!("paths {} more {}\n", page.len(), more as u64);
+    for record in page {
+        text += &(line(record) + &register_lines(record, shown));
     }
-    Ok(text)
+    text
 }
 
 /// A report from anywhere: its paths in words, and how many records are not a path.
 pub fn report_text(bytes: &[u8]) -> Result<(String, usize), String> {
-    if bytes.is_empty() || bytes.len() % PATH_BYTES != 0 {
-        return Err(format!("{} bytes are not whole records of {PATH_BYTES}", bytes.len()));
+    let size = path_bytes(inputs_of(bytes));
+    if bytes.is_empty() || bytes.len() % size != 0 {
+        return Err(format!("{} bytes are not whole records of {size}", bytes.len()));
     }
     let (mut text, mut empty, mut faults) = (String::new(), 0, 0);
-    for (place, bytes) in bytes.chunks(PATH_BYTES).enumerate() {
+    for (place, bytes) in bytes.chunks(size).enumerate() {
         match read(bytes) {
             Ok(record) => text += &record_text(&record),
             Err(_) if bytes.iter().all(|&byte| byte == 0) => empty += 1,
@@ -148,14 +170,38 @@ fn record_text(record: &Record) -> String {
 #[cfg(test)]
 mod tests {
     use super::*;
-    use crate::blocks::to_bytes;
+    use crate::blocks::{to_bytes, HIGHS, LOWS};
+    use crate::limits::{in_header, PAYLOAD_WORDS};
     use crate::random::Random;
 
+    /// A record of Job A's one input.
+    const RECORD: usize = path_bytes(1);
+
     fn bytes_of(first: &[(usize, u64)], second: &[(usize, u64)]) -> Vec<u8> {
-        let mut words = [0; 126];
+        let mut words = [0; 2 * PAYLOAD_WORDS];
         first.iter().for_each(|&(place, word)| words[place] = word);
-        second.iter().for_each(|&(place, word)| words[63 + place] = word);
+        second.iter().for_each(|&(place, word)| words[PAYLOAD_WORDS + place] = word);
         to_bytes(&words)
+    }
+
+    #[test]
+    fn the_header_for_c_has_the_same_places() {
+        let places = [
+            ("NUMBER", NUMBER),
+            ("KIND", KIND),
+            ("PC", PC),
+            ("STEPS", STEPS),
+            ("INPUT_COUNT", INPUT_COUNT),
+            ("LOWS", LOWS),
+            ("HIGHS", HIGHS),
+            ("EXIT_LOW", EXIT_LOW),
+            ("EXIT_HIGH", EXIT_HIGH),
+            ("REASON", REASON),
+            ("INPUTS_READ", INPUTS_READ),
+        ];
+        for (name, place) in places {
+            assert_eq!(in_header(&format!("MIROKEFA_PATH_{name} =")), Some(place as u64), "{name}");
+        }
     }
 
     /// Path 1 of Job A, every word put in its place by hand.
@@ -180,7 +226,8 @@ mod tests {
         let mut first: Vec<(usize, u64)> =
             (0..25).map(|place| (place, 100 + place as u64)).collect();
         (first[1].1, first[4].1) = (1, 8);
-        let second: Vec<(usize, u64)> = (0..63).map(|place| (place, 100 + place as u64)).collect();
+        let second: Vec<(usize, u64)> =
+            (0..PAYLOAD_WORDS).map(|place| (place, 100 + place as u64)).collect();
         let record = read(&bytes_of(&first, &second)).unwrap();
         let Record { number, kind, pc, steps, reason, reads, .. } = record;
         assert_eq!([number, kind, pc, steps, reason, reads], [100, 1, 102, 103, 123, 124]);
@@ -204,7 +251,7 @@ mod tests {
         assert_eq!(fault(&[(0, 1), (1, 1)], &[(0, 2)]), "its blocks belong to paths 1 and 2");
         assert_eq!(fault(&[(1, 1), (4, 9)], &[]), "it has 9 inputs");
         assert_eq!(fault(&[(1, 10)], &[]), "it has kind 10");
-        assert!(read(&[0; PATH_BYTES]).is_err());
+        assert!(read(&[0; RECORD]).is_err());
         assert!(read(&[]).is_err());
     }
 
@@ -220,8 +267,8 @@ mod tests {
 
     #[test]
     fn a_report_with_unwritten_and_damaged_records() {
-        let damaged = [1; PATH_BYTES];
-        let report = [&path_of_a()[..], &damaged, &[0; 2 * PATH_BYTES]].concat();
+        let damaged = [1; RECORD];
+        let report = [&path_of_a()[..], &damaged, &[0; 2 * RECORD]].concat();
         let (text, faults) = report_text(&report).unwrap();
         assert_eq!(faults, 1);
         assert!(text.starts_with("path 1 end 1 at 28"));

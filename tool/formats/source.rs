@@ -2,7 +2,8 @@
 
 use crate::blocks::Interval;
 use crate::instruction::{encode, register_number, Form, Instruction, ROWS};
-use crate::job::{Job, MEMORY_WORDS, MOST_CODE_WORDS, MOST_INPUTS, MOST_STEPS, PATH_NUMBERS};
+use crate::job::Job;
+use crate::limits::{MEMORY_WORDS, MOST_CODE_WORDS, MOST_INPUTS, MOST_STEPS, PATH_NUMBERS};
 use std::collections::BTreeMap;
 
 /// What is wrong with a line, counted from 1.

@@ -1,28 +1,24 @@
 //! A job and its blocks: a header, the code with two words to a payload word, then memory words.
 
-use crate::blocks::{payload, to_bytes, Interval, BLOCK_BYTES, PAYLOAD_WORDS};
-
-pub const MOST_CODE_WORDS: usize = 1024;
-pub const MOST_INPUTS: usize = 8;
-pub const MOST_STEPS: u64 = 65_536;
-pub const MEMORY_WORDS: usize = 512;
-/// The first path wanted is below this.
-pub const PATH_NUMBERS: u64 = 1 << 32;
-pub const MOST_BLOCKS: usize = 19;
+use crate::blocks::{intervals, payload, to_bytes, Interval, HIGHS, LOWS};
+use crate::limits::{
+    BLOCK_BYTES, MEMORY_WORDS, MOST_BLOCKS, MOST_CODE_WORDS, MOST_INPUTS, MOST_STEPS, PATH_NUMBERS,
+    PAYLOAD_WORDS,
+};
 
 // Refusals that a job has beyond those of a call.
-pub const NOT_WHOLE_BLOCKS: u64 = 9;
-pub const WRONG_CHECK: u64 = 10;
-pub const WRONG_FORM: u64 = 11;
+const NOT_WHOLE_BLOCKS: u64 = 9;
+const WRONG_CHECK: u64 = 10;
+const WRONG_FORM: u64 = 11;
 
-// The header's words.
-const VERSION: u64 = 1;
+/// What word 0 of a header holds.
+const MARK: u64 = 1;
+
+// The header's words, beside the lows and highs.
 const CODE_COUNT: usize = 1;
 const INPUT_COUNT: usize = 2;
 const LIMIT: usize = 3;
 const FIRST: usize = 4;
-const LOWS: usize = 5;
-const HIGHS: usize = 13;
 const MEMORY_COUNT: usize = 21;
 
 #[derive(Clone, Debug, PartialEq, Eq)]
@@ -42,7 +38,7 @@ impl Job {
 
     fn header(&self) -> [u64; PAYLOAD_WORDS] {
         let mut header = [0; PAYLOAD_WORDS];
-        header[0] = VERSION;
+        header[0] = MARK;
         header[CODE_COUNT] = self.code.len() as u64;
         header[INPUT_COUNT] = self.intervals.len() as u64;
         header[LIMIT] = self.limit;
@@ -60,16 +56,11 @@ impl Job {
         self.code.chunks(2).map(pair).collect()
     }
 
-    /// All 512 words.
+    /// With the words that are not given.
     pub fn whole_memory(&self) -> Vec<u64> {
         let mut memory = self.memory.clone();
         memory.resize(MEMORY_WORDS, 0);
         memory
-    }
-
-    /// Low, high, low, high.
-    pub fn flat_intervals(&self) -> Vec<u64> {
-        self.intervals.iter().flat_map(|&(low, high)| [low, high]).collect()
     }
 }
 
@@ -102,10 +93,11 @@ fn payloads(bytes: &[u8]) -> Result<Vec<Vec<u64>>, u64> {
 /// The call's questions that the header answers, in their order.
 fn header_refusal(header: &[u64]) -> Option<u64> {
     let inputs = header[INPUT_COUNT].min(MOST_INPUTS as u64) as usize;
+    let rises = |(low, high): Interval| low <= high;
     let questions = [
         (1, (1..=MOST_CODE_WORDS as u64).contains(&header[CODE_COUNT])),
         (2, header[INPUT_COUNT] <= MOST_INPUTS as u64),
-        (3, (0..inputs).all(|input| header[LOWS + input] <= header[HIGHS + input])),
+        (3, intervals(header, inputs).into_iter().all(rises)),
         (4, (1..=MOST_STEPS).contains(&header[LIMIT])),
         (6, header[MEMORY_COUNT] <= MEMORY_WORDS as u64),
         (8, header[FIRST] < PATH_NUMBERS),
@@ -118,46 +110,48 @@ fn job_of(header: &[u64], rest: &[Vec<u64>]) -> Job {
     let code_count = header[CODE_COUNT] as usize;
     let code_blocks = code_count.div_ceil(2 * PAYLOAD_WORDS);
     let (code, memory) = rest.split_at(code_blocks.min(rest.len()));
-    let inputs = 0..header[INPUT_COUNT] as usize;
     let halves = |&word: &u64| [word as u32, (word >> 32) as u32];
     Job {
         code: code.iter().flatten().flat_map(halves).take(code_count).collect(),
-        intervals: inputs.map(|input| (header[LOWS + input], header[HIGHS + input])).collect(),
+        intervals: intervals(header, header[INPUT_COUNT] as usize),
         limit: header[LIMIT],
         first: header[FIRST],
         memory: memory.iter().flatten().copied().take(header[MEMORY_COUNT] as usize).collect(),
     }
 }
 
+/// Any job that is accepted.
+#[cfg(test)]
+pub fn random_job(random: &mut crate::random::Random) -> Job {
+    let inputs = random.below(MOST_INPUTS + 1);
+    Job {
+        intervals: (0..inputs).map(|_| random.next()).map(|low| (low, low | 7)).collect(),
+        code: (0..1 + random.below(MOST_CODE_WORDS)).map(|_| random.next() as u32).collect(),
+        limit: 1 + random.below(MOST_STEPS as usize) as u64,
+        first: random.next() % PATH_NUMBERS,
+        memory: (0..random.below(MEMORY_WORDS + 1)).map(|_| random.next()).collect(),
+    }
+}
+
 #[cfg(test)]
 mod tests {
     use super::*;
+    use crate::assembler::job_a;
     use crate::blocks::check;
     use crate::random::Random;
 
-    const JOB_A: [u32; 8] = [
-        0x03F00893, 0x00800613, 0x00000073, 0x00003283, 0x00A00313, 0x0062B533, 0x05D00893,
-        0x00000073,
-    ];
-
-    fn job_a() -> Job {
-        let code = JOB_A.to_vec();
-        Job { code, intervals: vec![(0, 255)], limit: 100, first: 0, memory: vec![] }
-    }
-
     /// Job A's payloads with every word put in its place by hand.
-    fn payloads_of_a() -> [[u64; 63]; 2] {
-        let mut payloads = [[0; 63]; 2];
+    fn payloads_of_a() -> [[u64; PAYLOAD_WORDS]; 2] {
+        let mut payloads = [[0; PAYLOAD_WORDS]; 2];
         payloads[0][..5].copy_from_slice(&[1, 8, 1, 100, 0]);
         payloads[0][13] = 255;
-        payloads[1][0] = 0x0080061303F00893;
-        payloads[1][1] = 0x0000328300000073;
-        payloads[1][2] = 0x0062B53300A00313;
-        payloads[1][3] = 0x0000007305D00893;
+        for (place, &word) in job_a().code.iter().enumerate() {
+            payloads[1][place / 2] += (word as u64) << (32 * (place % 2));
+        }
         payloads
     }
 
-    fn bytes_of(payloads: &[[u64; 63]]) -> Vec<u8> {
+    fn bytes_of(payloads: &[[u64; PAYLOAD_WORDS]]) -> Vec<u8> {
         let words = payloads.iter().flat_map(|payload| [&payload[..], &[check(payload)]].concat());
         words.flat_map(|word| word.to_le_bytes()).collect()
     }
@@ -168,16 +162,14 @@ mod tests {
         read(&bytes_of(&payloads))
     }
 
-    fn random_job(random: &mut Random) -> Job {
-        let intervals = (0..random.below(9)).map(|_| random.next()).map(|low| (low, low | 7));
-        let intervals = intervals.collect();
-        Job {
-            intervals,
-            code: (0..1 + random.below(1024)).map(|_| random.next() as u32).collect(),
-            limit: 1 + random.below(65_536) as u64,
-            first: random.next() >> 32,
-            memory: (0..random.below(513)).map(|_| random.next()).collect(),
-        }
+    #[test]
+    fn the_words_of_a_header_have_their_places() {
+        let job = Job { intervals: vec![(7, 8), (9, 10)], first: 3, memory: vec![5; 4], ..job_a() };
+        let mut header = [0; PAYLOAD_WORDS];
+        header[..7].copy_from_slice(&[1, 8, 2, 100, 3, 7, 9]);
+        header[13..15].copy_from_slice(&[8, 10]);
+        header[21] = 4;
+        assert_eq!(job.header(), header);
     }
 
     #[test]
@@ -237,7 +229,7 @@ mod tests {
 
     #[test]
     fn each_flipped_bit_with_a_new_check_has_document_01s_number() {
-        for (word, bit) in (0..63).flat_map(|word| (0..64).map(move |bit| (word, bit))) {
+        for (word, bit) in (0..PAYLOAD_WORDS).flat_map(|word| (0..64).map(move |bit| (word, bit))) {
             let mut payloads = payloads_of_a();
             payloads[0][word] ^= 1 << bit;
             let number = read(&bytes_of(&payloads)).err().unwrap_or(0);
@@ -280,8 +272,8 @@ mod tests {
         let mut payloads = payloads_of_a();
         payloads[0][1] = 7;
         assert_eq!(read(&bytes_of(&payloads)), Err(11));
-        payloads[1][3] = 0x05D00893;
-        assert_eq!(read(&bytes_of(&payloads)).map(|job| job.code), Ok(JOB_A[..7].to_vec()));
+        payloads[1][3] %= 1 << 32;
+        assert_eq!(read(&bytes_of(&payloads)).map(|job| job.code), Ok(job_a().code[..7].to_vec()));
     }
 
     #[test]
@@ -304,9 +296,10 @@ mod tests {
     fn random_bytes_are_refused() {
         let mut random = Random(2);
         for round in 0..2000 {
-            let whole = 512 * random.below(41);
-            let count = if round % 2 == 0 { whole } else { random.below(40 * 512) };
-            let number = if count % 512 == 0 && (1..=19).contains(&(count / 512)) { 10 } else { 9 };
+            let whole = BLOCK_BYTES * random.below(41);
+            let count = if round % 2 == 0 { whole } else { random.below(40 * BLOCK_BYTES) };
+            let (blocks, rest) = (count / BLOCK_BYTES, count % BLOCK_BYTES);
+            let number = if rest == 0 && (1..=MOST_BLOCKS).contains(&blocks) { 10 } else { 9 };
             assert_eq!(read(&random.bytes(count)), Err(number), "{count} bytes");
         }
     }
@@ -315,10 +308,10 @@ mod tests {
     fn random_words_with_right_checks_are_read_or_refused() {
         let mut random = Random(3);
         for _ in 0..2000 {
-            let mut payloads = vec![[0; 63]; 1 + random.below(20)];
+            let mut payloads = vec![[0; PAYLOAD_WORDS]; 1 + random.below(20)];
             for _ in 0..random.below(40) {
                 let block = random.below(payloads.len());
-                payloads[block][random.below(63)] = random.next() >> random.below(64);
+                payloads[block][random.below(PAYLOAD_WORDS)] = random.next() >> random.below(64);
             }
             let _ = read(&bytes_of(&payloads));
         }

@@ -1,5 +1,6 @@
 //! Tests of the assembler: jobs, and what it says about each fault.
 
+use crate::assembler::job_a;
 use crate::instruction::{decode, text};
 use crate::job::Job;
 use crate::random::Random;
@@ -25,14 +26,13 @@ fn fault(line: &str) -> String {
     faults[0].strip_prefix("2: ").unwrap_or(&faults[0]).to_string()
 }
 
+/// Document 01's words of Job A stand in the C example.
 #[test]
 fn job_a_has_document_01s_words() {
-    let job = job(include_str!("../jobs/job-a.s"));
-    let words = [
-        0x03F00893, 0x00800613, 0x00000073, 0x00003283, 0x00A00313, 0x0062B533, 0x05D00893,
-        0x00000073,
-    ];
-    assert_eq!(job.code, words);
+    let job = job_a();
+    let numbers = include_str!("../../examples/job_a.h").split("0x").skip(1);
+    let words = numbers.map(|text| u32::from_str_radix(&text[..8], 16).unwrap());
+    assert_eq!(job.code, words.collect::<Vec<u32>>());
     assert_eq!((job.intervals, job.limit, job.first), (vec![(0, 255)], 100, 0));
     assert!(job.memory.is_empty());
 }
@@ -189,54 +189,55 @@ fn a_faulty_instruction_keeps_its_address() {
     assert_eq!(faults(source), ["2: immediate 5000 does not fit 12 bits", "3: offset 3 is odd"]);
 }
 
-/// Pieces of sources in any order, with letters of more than one byte among them.
+/// Pieces of sources, with letters of more than one byte among them.
+const PIECES: [&str; 38] = [
+    "addi",
+    "ld",
+    "beq",
+    "jal",
+    "li",
+    "ret",
+    ".input",
+    ".word",
+    ".limit",
+    ".code",
+    "a0",
+    "x31",
+    "x99",
+    "sp",
+    "0",
+    "-1",
+    "0x",
+    "0xFFFFFFFFFFFFFFFFFF",
+    "max",
+    "-max",
+    "..",
+    ",",
+    "(",
+    ")",
+    ":",
+    "#",
+    "\n",
+    "\n",
+    " ",
+    "\t",
+    "ä",
+    "\u{1F69A}",
+    "\0",
+    "99999999999999999999999999999999999999999",
+    "loop",
+    "loop:",
+    "-",
+    "\r\n",
+];
+
 #[test]
 fn no_text_stops_the_assembler() {
-    let pieces = [
-        "addi",
-        "ld",
-        "beq",
-        "jal",
-        "li",
-        "ret",
-        ".input",
-        ".word",
-        ".limit",
-        ".code",
-        "a0",
-        "x31",
-        "x99",
-        "sp",
-        "0",
-        "-1",
-        "0x",
-        "0xFFFFFFFFFFFFFFFFFF",
-        "max",
-        "-max",
-        "..",
-        ",",
-        "(",
-        ")",
-        ":",
-        "#",
-        "\n",
-        "\n",
-        " ",
-        "\t",
-        "ä",
-        "\u{1F69A}",
-        "\0",
-        "99999999999999999999999999999999999999999",
-        "loop",
-        "loop:",
-        "-",
-        "\r\n",
-    ];
     let mut random = Random(4);
     for _ in 0..50_000 {
         let count = random.below(30);
-        let source: String = (0..count).map(|_| pieces[random.below(pieces.len())]).collect();
-        let spaced: Vec<&str> = (0..count).map(|_| pieces[random.below(pieces.len())]).collect();
+        let source: String = (0..count).map(|_| random.pick(&PIECES)).collect();
+        let spaced: Vec<&str> = (0..count).map(|_| random.pick(&PIECES)).collect();
         let _ = (assemble(&source), assemble(&spaced.join(" ")));
     }
 }

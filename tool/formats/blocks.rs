@@ -1,10 +1,23 @@
 //! Blocks of 512 bytes: 64 little-endian words, the last of which checks the others.
 
-pub const BLOCK_BYTES: usize = 512;
-pub const PAYLOAD_WORDS: usize = 63;
+use crate::limits::{BLOCK_BYTES, PAYLOAD_WORDS};
 
 /// Low and high, both included.
 pub type Interval = (u64, u64);
+
+/// Where a job's header and a path's first block have the lows and the highs of the inputs.
+pub const LOWS: usize = 5;
+pub const HIGHS: usize = 13;
+
+/// The intervals in a header or a first block.
+pub fn intervals(words: &[u64], inputs: usize) -> Vec<Interval> {
+    (0..inputs).map(|input| (words[LOWS + input], words[HIGHS + input])).collect()
+}
+
+/// Low, high, low, high, as a call lends them.
+pub fn flat(intervals: &[Interval]) -> Vec<u64> {
+    intervals.iter().flat_map(|&(low, high)| [low, high]).collect()
+}
 
 /// The check word of a payload.
 pub fn check(payload: &[u64]) -> u64 {
@@ -30,7 +43,8 @@ pub fn payload(bytes: &[u8]) -> Option<Vec<u64>> {
     (bytes.len() == BLOCK_BYTES && check(&words) == sum).then_some(words)
 }
 
-fn word(bytes: &[u8]) -> u64 {
+/// A word of eight bytes.
+pub fn word(bytes: &[u8]) -> u64 {
     bytes.iter().rev().fold(0, |value, byte| value << 8 | *byte as u64)
 }
 
@@ -57,7 +71,7 @@ mod tests {
     #[test]
     fn a_wrong_length_is_no_block() {
         assert_eq!(payload(&[]), None);
-        assert_eq!(payload(&to_bytes(&[1])[..504]), None);
-        assert_eq!(payload(&to_bytes(&[1; 64])), None);
+        assert_eq!(payload(&to_bytes(&[1])[..BLOCK_BYTES - 8]), None);
+        assert_eq!(payload(&to_bytes(&[1; PAYLOAD_WORDS + 1])), None);
     }
 }

@@ -1,0 +1,213 @@
+//! Tests of the oracle itself: document 01's rules on trial, and random jobs against runs of its
+//! plain machine.
+
+mod listing_check;
+mod oracle;
+#[allow(dead_code)] // the large boxes are for other tests
+mod programs;
+
+use formats::assembler::*;
+use formats::limits::{path_bytes, ENTRY_WORDS, MEMORY_WORDS, PAYLOAD_WORDS, USUAL_TABLE_WORDS};
+use formats::numbers::{KINDS, REASONS};
+use formats::random::Random;
+use formats::report;
+use oracle::*;
+use std::collections::BTreeSet;
+
+const MEMORY: [u64; MEMORY_WORDS] = [0; MEMORY_WORDS];
+const RECORD: usize = path_bytes(1);
+const ENTRIES: u64 = (USUAL_TABLE_WORDS / ENTRY_WORDS) as u64;
+
+fn job(code: &[u32], low: u64, high: u64, limit: u64) -> Job {
+    let (code, intervals) = (code.to_vec(), vec![(low, high)]);
+    Job { code, memory: Vec::new(), limit, intervals, entries: ENTRIES }
+}
+
+/// Kind, reason, pc, steps, the one input and register 10 of each path.
+fn lines(job: &Job) -> Vec<(u64, u64, u64, u64, Interval, Interval)> {
+    let line = |path: Path| {
+        let (input, value) = (path.boxes[0], path.registers[10]);
+        (path.kind, path.reason, path.pc, path.steps, input, value)
+    };
+    listing(job).into_iter().map(line).collect()
+}
+
+/// The box and the exit value of each path; all of them exit.
+fn exits(work: &[u32], low: u64, high: u64) -> Vec<(Interval, Interval)> {
+    let lines = lines(&job(&reads(work), low, high, 100));
+    assert!(lines.iter().all(|line| line.0 == EXITED));
+    lines.into_iter().map(|line| (line.4, line.5)).collect()
+}
+
+#[test]
+fn job_a_has_two_paths() {
+    let expected = [(EXITED, 0, 28, 7, (0, 9), (1, 1)), (EXITED, 0, 28, 7, (10, 255), (0, 0))];
+    assert_eq!(lines(&job(&job_a().code, 0, 255, 100)), expected);
+}
+
+#[test]
+fn limit_5_ends_job_a_before_its_fork() {
+    let expected = [(STEP_LIMIT, 0, 20, 5, (0, 255), (8, 8))];
+    assert_eq!(lines(&job(&job_a().code, 0, 255, 5)), expected);
+}
+
+#[test]
+fn limit_7_ends_job_a_after_its_fork() {
+    let expected =
+        [(STEP_LIMIT, 0, 28, 7, (0, 9), (1, 1)), (STEP_LIMIT, 0, 28, 7, (10, 255), (0, 0))];
+    assert_eq!(lines(&job(&job_a().code, 0, 255, 7)), expected);
+}
+
+#[test]
+fn one_entry_ends_job_a_at_4() {
+    let mut job = job(&job_a().code, 0, 255, 100);
+    job.entries = 1;
+    assert_eq!(lines(&job), [(TRACE_FULL, 0, 4, 1, (0, 255), (0, 0))]);
+}
+
+#[test]
+fn a_falling_value_has_its_pieces_in_order_of_the_input() {
+    // 10 - v < 1
+    let work = [addi(6, 0, 10), sub(7, 6, 5), addi(28, 0, 1), sltu(10, 7, 28)];
+    let expected = [((0, 9), (0, 0)), ((10, 10), (1, 1)), ((11, 255), (0, 0))];
+    assert_eq!(exits(&work, 0, 255), expected);
+}
+
+#[test]
+fn a_sum_forks_where_it_wraps() {
+    let expected = [
+        ((u64::MAX - 200, u64::MAX - 5), (u64::MAX - 195, u64::MAX)),
+        ((u64::MAX - 4, u64::MAX), (0, 4)),
+    ];
+    assert_eq!(exits(&[addi(10, 5, 5)], u64::MAX - 200, u64::MAX), expected);
+}
+
+#[test]
+fn a_product_forks_where_it_wraps() {
+    let half = 1 << 63;
+    let expected = [((half - 3, half - 1), (u64::MAX - 5, u64::MAX - 1)), ((half, half), (0, 0))];
+    assert_eq!(exits(&[addi(6, 0, 2), mul(10, 5, 6)], half - 3, half), expected);
+    let quarter = half >> 1;
+    let expected = [
+        ((quarter - 1, quarter - 1), (u64::MAX - 3, u64::MAX - 3)),
+        ((quarter, quarter + 1), (0, 4)),
+    ];
+    assert_eq!(exits(&[addi(6, 0, 4), mul(10, 5, 6)], quarter - 1, quarter + 1), expected);
+}
+
+#[test]
+fn remainders_by_5() {
+    let work = [addi(6, 0, 5), remu(10, 5, 6)];
+    assert_eq!(exits(&work, 3, 6), [((3, 4), (3, 4)), ((5, 6), (0, 1))]);
+    assert_eq!(exits(&work, 3, 7), [((3, 4), (3, 4)), ((5, 7), (0, 2))]);
+    let expected = [(NOT_FOLLOWED, QUOTIENTS, 20, 5, (0, 10), (8, 8))];
+    assert_eq!(lines(&job(&reads(&work), 0, 10, 100)), expected);
+}
+
+#[test]
+fn one_piece_where_nothing_changes() {
+    assert_eq!(exits(&[add(10, 5, 5)], 5, 5), [((5, 5), (10, 10))]);
+    assert_eq!(exits(&[sltu(10, 5, 0)], 0, 255), [((0, 255), (0, 0))]);
+}
+
+#[test]
+fn ten_tests_of_one_value_have_two_paths() {
+    assert_eq!(exits(&ten_tests(), 0, 255), [((0, 4), (1, 1)), ((5, 255), (0, 0))]);
+}
+
+#[test]
+fn check_of_an_empty_payload() {
+    assert_eq!(check(&[0; PAYLOAD_WORDS]), 0x8000000000000000);
+}
+
+#[test]
+fn the_questions_come_in_order() {
+    assert_eq!(door(0, &[1], 0, 7, 0, 0, 1 << 32), Some(1));
+    assert_eq!(door(1, &[1, 0, 1], 0, 7, 0, 0, 1 << 32), Some(2));
+    assert_eq!(door(1, &[0; 18], 0, 7, 0, 0, 1 << 32), Some(2));
+    assert_eq!(door(1, &[1, 0], 0, 7, 0, 0, 1 << 32), Some(3));
+    assert_eq!(door(1, &[], 65537, 7, 0, 0, 1 << 32), Some(4));
+    assert_eq!(door(1, &[], 65536, 7, 0, 0, 1 << 32), Some(5));
+    assert_eq!(door(1, &[], 1, 8, 511, 0, 1 << 32), Some(6));
+    assert_eq!(door(1, &[], 1, 8, 512, 512, 1 << 32), Some(7));
+    assert_eq!(door(1, &[], 1, 8, 512, 1024, 1 << 32), Some(8));
+    assert_eq!(door(1024, &[0; 16], 1, 8, 512, 1024, (1 << 32) - 1), None);
+}
+
+#[test]
+fn a_page_of_job_a() {
+    let mut report = [0xEE; 3 * RECORD];
+    let answer = call(&job_a().code, &MEMORY, &[0, 255], 100, USUAL_TABLE_WORDS, &mut report, 1);
+    assert_eq!(answer, Answer { refusal: 0, count: 1, more: false });
+    let record = report::read(&report[..RECORD]).unwrap();
+    let expected = include_str!("../jobs/job-a.out").lines().nth(2).unwrap();
+    assert_eq!(report::line(&record).trim_end(), expected);
+    assert_eq!(
+        (record.reads, record.registers[2], record.registers[17]),
+        (1, (4096, 4096), (93, 93))
+    );
+    assert!(report[RECORD..].iter().all(|&byte| byte == 0xEE));
+}
+
+#[test]
+fn pages_of_job_a() {
+    let mut report = [0xEE; RECORD];
+    let mut page =
+        |first| call(&job_a().code, &MEMORY, &[0, 255], 100, USUAL_TABLE_WORDS, &mut report, first);
+    assert_eq!(page(0), Answer { refusal: 0, count: 1, more: true });
+    assert_eq!(page(1), Answer { refusal: 0, count: 1, more: false });
+    assert_eq!(page(2), Answer { refusal: 0, count: 0, more: false });
+    assert_eq!(page(1 << 32), Answer { refusal: 8, count: 0, more: false });
+}
+
+#[test]
+fn a_plain_run_of_job_a() {
+    let run = run_plain(&job_a().code, &MEMORY, &[u64::MAX], 100);
+    assert_eq!((run.stop, run.steps, run.machine.pc), (Some(EXITED), 7, 28));
+    assert_eq!((run.machine.reads, run.machine.memory.load(0)), (1, u64::MAX));
+    let run = run_plain(&job_a().code, &MEMORY, &[9], 6);
+    assert_eq!((run.stop, run.steps, run.machine.registers[10]), (None, 6, 1));
+}
+
+/// A job of few choices, with few steps and few entries.
+fn random_job(random: &mut Random) -> Job {
+    let inputs = programs::input_count(random);
+    let intervals = programs::small_box(random, inputs, 30);
+    Job {
+        code: programs::program(random, inputs),
+        memory: programs::memory_for(random, &intervals),
+        limit: 1 + random.below(60) as u64,
+        entries: 1 + random.below(60) as u64,
+        intervals,
+    }
+}
+
+#[test]
+fn plain_runs_agree_with_their_paths() {
+    let mut random = Random(1);
+    let mut ends = BTreeSet::new();
+    for _ in 0..3000 {
+        let job = random_job(&mut random);
+        let paths = listing(&job);
+        ends.extend(paths.iter().map(|path| (path.kind, path.reason)));
+        listing_check::check_listing(&mut random, &job, &paths).unwrap();
+        for inputs in all_inputs(&job.intervals) {
+            let owner = listing_check::owner(&paths, &inputs).unwrap();
+            listing_check::check_choice(&job, owner, &inputs).unwrap();
+        }
+    }
+    // one kind has the reasons
+    assert_eq!(ends.len() as u64, KINDS - 1 + REASONS, "{ends:?}");
+}
+
+#[test]
+fn paths_come_back_from_their_pages() {
+    let mut random = Random(2);
+    for _ in 0..300 {
+        let job = random_job(&mut random);
+        let (paths, inputs) = (listing(&job), job.intervals.len());
+        let mut pages = vec![0; paths.len() * path_bytes(inputs)];
+        write_page(&paths, &mut pages, 0);
+        assert_eq!(listing_check::read_listing(&pages, inputs), Ok(paths));
+    }
+}

@@ -1,0 +1,93 @@
+//! The numbers of document 01 in words; docs/NUMBERS.md says more.
+
+use crate::limits::*;
+
+// How many there are; they are numbered from 1. A call asks the first questions, a job all of them.
+pub const CALL_REFUSALS: u64 = 8;
+pub const REFUSALS: u64 = 11;
+pub const KINDS: u64 = 9;
+pub const REASONS: u64 = 7;
+
+pub fn refusal_text(number: u64) -> String {
+    match number {
+        1 => format!("the code is not 1 to {MOST_CODE_WORDS} words"),
+        2 => format!("the intervals are not whole pairs for at most {MOST_INPUTS} inputs"),
+        3 => "an interval's low is above its high".to_string(),
+        4 => format!("the step limit is not 1 to {MOST_STEPS}"),
+        5 => format!("the table has fewer than {ENTRY_WORDS} words"),
+        6 => format!("memory is not {MEMORY_WORDS} words, or a job gives more than {MEMORY_WORDS}"),
+        7 => format!("the report is empty or not a multiple of {} bytes", path_bytes(MOST_INPUTS)),
+        8 => format!("the first path wanted is not below {PATH_NUMBERS}"),
+        9 => format!("the job is not 1 to {MOST_BLOCKS} whole blocks of {BLOCK_BYTES} bytes"),
+        10 => "a block's check does not agree with its words".to_string(),
+        11 => "the header's first word is not 1, blocks are missing or too many, or an unused word is not 0".to_string(),
+        _ => "no such refusal".to_string(),
+    }
+}
+
+pub fn kind_text(kind: u64) -> &'static str {
+    match kind {
+        1 => "exit",
+        2 => "division by zero",
+        3 => "pc outside the code, or not a multiple of 4",
+        4 => "the word at pc is no instruction",
+        5 => "data address above 4088, or not a multiple of 8",
+        6 => "no such call, or a read whose a0 is not 0 or whose a2 is not 8",
+        7 => "the step limit is reached",
+        8 => "not followed",
+        9 => "the trace table is full",
+        _ => "no such kind",
+    }
+}
+
+pub fn reason_text(reason: u64) -> &'static str {
+    match reason {
+        1 => "both operands vary",
+        2 => "the fixed multiplier is neither 0 nor a power of two",
+        3 => "the fixed divisor of divu is no power of two",
+        4 => "the divisor varies",
+        5 => "the product or remainder wraps more than once over the interval",
+        6 => "the base address of ld, sd or jalr varies",
+        7 => "the call number or an operand of read varies",
+        _ => "no such reason",
+    }
+}
+
+#[cfg(test)]
+mod tests {
+    use super::*;
+    use std::collections::BTreeSet;
+
+    const PAGE: &str = include_str!("../../docs/NUMBERS.md");
+
+    /// The rows of a part of docs/NUMBERS.md stand in order and begin with the words of the tool.
+    fn check_page(part: usize, text: impl Fn(u64) -> String, highest: u64) {
+        let part = PAGE.split("\n## ").nth(part).unwrap();
+        let rows: Vec<&str> = part.lines().filter(|line| line.starts_with("| ")).skip(1).collect();
+        assert_eq!(rows.len() as u64, highest);
+        for (row, number) in rows.iter().zip(1..) {
+            assert!(row.starts_with(&format!("| {number} | {} | ", text(number))), "{row}");
+        }
+    }
+
+    #[test]
+    fn the_page_has_the_same_words() {
+        check_page(1, refusal_text, REFUSALS);
+        check_page(2, |kind| kind_text(kind).to_string(), KINDS);
+        check_page(3, |reason| reason_text(reason).to_string(), REASONS);
+    }
+
+    fn check_texts(text: impl Fn(u64) -> String, highest: u64) {
+        let texts: BTreeSet<String> = (1..=highest).map(&text).collect();
+        assert_eq!(texts.len() as u64, highest, "two numbers share a text");
+        assert!(texts.iter().all(|text| !text.starts_with("no such r") && text != "no such kind"));
+        assert!(text(0).starts_with("no such") && text(highest + 1).starts_with("no such"));
+    }
+
+    #[test]
+    fn every_number_has_words() {
+        check_texts(refusal_text, REFUSALS);
+        check_texts(|kind| kind_text(kind).to_string(), KINDS);
+        check_texts(|reason| reason_text(reason).to_string(), REASONS);
+    }
+}
