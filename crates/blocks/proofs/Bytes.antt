@@ -2,7 +2,7 @@
 -- Assumes nothing.
 use mathlib.Core.Path.{_≡_, refl, sym, ap, _∙_}
 use mathlib.Core.List.{List, [], _∷_, _++_, append-nil, append-assoc, flatMap}
-use Prim.Native.Nat.{ℕ, zero, suc, _+_, _*_, _/_, _%_, _^_, _≤_, _<_}
+use Prim.Native.Nat.{ℕ, zero, suc, _+_, _*_, _/_, _^_, _≤_, _<_}
 use native.Mathlib.Nat.{pow-suc, pow-le-pow-right}
 use native.Mathlib.Omega.{arith}
 use lib.ListN.{length, getD, take, drop, replicate, length-append, length-replicate, length-drop}
@@ -22,26 +22,16 @@ bytes-number (suc n) w l =
     let h : w < 256 ^ n * 256 = rw pow-suc at l in
     rw (bytes-number n (w / 256) (omega arith)) (omega arith)
 
--- and so do bytes
-pub number-bytes : (bs : List ℕ) → ((k : ℕ) → getD bs k 0 < 256) → bytesOf (length bs) (numberOf bs) ≡ bs
-unfolding bytesOf numberOf
-number-bytes [] h = refl
-number-bytes (b ∷ bs) h =
-    let l : b < 256 = h 0 in
-    let p : (b + 256 * numberOf bs) % 256 ≡ b = omega arith in
-    let q : (b + 256 * numberOf bs) / 256 ≡ numberOf bs = omega arith in
-    rw (p, q, number-bytes bs (λ k. h (suc k)))
-
 -- a byte more in front, and the room for it
 pub number-more : (bs : List ℕ) (i n : ℕ) → i < length bs → numberOf (take (suc n) (drop i bs)) ≡ getD bs i 0 + 256 * numberOf (take n (drop (suc i) bs))
 unfolding numberOf
 number-more bs i n h = rw (drop-cons bs i 0 h)
 
-pub room-more : (n b w : ℕ) → b < 256 → w < 256 ^ n → b + 256 * w < 256 ^ suc n
-room-more n b w hb hw = rw pow-suc (omega arith)
+pub below-more : (n b w : ℕ) → b < 256 → w < 256 ^ n → b + 256 * w < 256 ^ suc n
+below-more n b w hb hw = rw pow-suc (omega arith)
 
-pub room-seven : (n w : ℕ) → n < wordBytes → w < 256 ^ n → w < 2 ^ 56
-room-seven n w h hw = let p : 256 ^ n ≤ 256 ^ 7 = pow-le-pow-right {n = 256} (omega arith) {i = n} {j = 7} (omega arith) in omega arith
+pub below-seven : (n w : ℕ) → n < wordBytes → w < 256 ^ n → w < 2 ^ 56
+below-seven n w h hw = let p : 256 ^ n ≤ 256 ^ 7 = pow-le-pow-right {n = 256} (omega arith) {i = n} {j = 7} (omega arith) in omega arith
 
 -- the bytes of words
 

@@ -1,13 +1,17 @@
 -- The laws of blocks, from the bottom up.
 --     Bytes       words in bytes and back; the words of a block
+--     Each        one more number of those that a test is asked of
 --     Check       changing just one payload word always changes the check
 --     Puts        bytes put into a list
 --     Written     how a block comes to be written, word by word
 --     Rows        the words of a path's two blocks, as the code has them
+--     Records     the words of a report's records
 --     Reading     the bytes of a path's record, read back, tell the path
 pub mod Bytes
+pub mod Each
 pub mod Check
 pub mod Puts
 pub mod Written
 pub mod Rows
+pub mod Records
 pub mod Reading

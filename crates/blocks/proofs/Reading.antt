@@ -8,15 +8,17 @@ use Prim.Native.Nat.{ℕ, zero, suc, _+_, _-_, _*_, _^_, _≤_, _<_}
 use native.Mathlib.Omega.{arith}
 use native.Mathlib.Nat.{zero-add}
 use borrow.Author.Tests.{eq-eqb}
-use lib.ListN.{length, getD, take, drop, length-append, length-drop, length-map, List·getD-append, List·getD-eq-default, getElem?}
+use lib.ListN.{length, getD, drop, length-append, length-drop, length-map, List·getD-append, List·getD-eq-default, getElem?}
 use lib.Seq.{getD-append-add, getD-at, getD-drop, ext-getD, take-at, drop-at, drop-append-add}
 use Rattle.boxes.specs.Boxes.{Interval, _⋯_, at, from, lows, highs}
 use Rattle.boxes.proofs.Lists.{_∈_, length-from, from-at}
 use Rattle.listing.specs.Listing.{Path}
 use Rattle.listing.specs.Numbers.{kindNumber, reasonWord}
 use Rattle.blocks.specs.Block.{blockBytes, payloadWords, check, payload, block, wordAt, agrees}
-use Rattle.blocks.specs.Record.{room, padded, registerOf, exitOf, ends, firstWords, secondWords, recordOf, records, pathBytes}
+use Rattle.blocks.specs.Layout as place
+use Rattle.blocks.specs.Record.{mostInputs, padded, registerOf, exitOf, ends, firstWords, secondWords, recordOf, records, recordBytes}
 use Rattle.blocks.specs.Reading.{second, Tells}
+use Rattle.blocks.specs.Report.{recordAt}
 use Rattle.blocks.proofs.Bytes.{word-left, word-at, getD-padded, payload-length, block-length}
 use Rattle.blocks.proofs.Check.{check-word}
 use Rattle.blocks.proofs.Rows.{padded-length, first-length}
@@ -74,13 +76,13 @@ ends-at (v ∷ vs) (suc i) =
 
 -- a path whose numbers fit the words
 pub record Fits (n : ℕ) (p : Path) : Type 0 where
-  pub inputs : length (p .box) ≤ room
+  pub inputs : length (p .box) ≤ mostInputs
   pub registers : length (p .registers) ≡ 32
   pub first : Words (firstWords n p)
   pub second : Words (secondWords n p)
 
 -- the words of the two blocks
-module _ (n : ℕ) (p : Path) (inputs : length (p .box) ≤ room) (registers : length (p .registers) ≡ 32) where
+module _ (n : ℕ) (p : Path) (inputs : length (p .box) ≤ mostInputs) (registers : length (p .registers) ≡ 32) where
   abbrev head : List ℕ
   head = n ∷ kindNumber (p .end) ∷ p .pc ∷ p .steps ∷ length (p .box) ∷ []
 
@@ -93,37 +95,37 @@ module _ (n : ℕ) (p : Path) (inputs : length (p .box) ≤ room) (registers : l
   abbrev tail : List ℕ
   tail = exitOf p .low ∷ exitOf p .high ∷ reasonWord (p .end) ∷ p .reads ∷ []
 
-  ls-length : length ls ≡ room
+  ls-length : length ls ≡ mostInputs
   ls-length = padded-length (lows (p .box)) (rw length-map inputs)
 
-  hs-length : length hs ≡ room
+  hs-length : length hs ≡ mostInputs
   hs-length = padded-length (highs (p .box)) (rw length-map inputs)
 
   second-length : length (secondWords n p) ≡ payloadWords
   unfolding secondWords
   second-length = omega (arith, ends-length (drop 1 (p .registers)), length-drop 1 (p .registers))
 
-  first-low : (i : ℕ) → i < room → getD (firstWords n p) (5 + i) 0 ≡ at (lows (p .box)) i
+  first-low : (i : ℕ) → i < mostInputs → getD (firstWords n p) (place.lows + i) 0 ≡ at (lows (p .box)) i
   unfolding firstWords
   first-low i l =
       getD-append-add head (ls ++ (hs ++ tail)) i 0
       ∙ List·getD-append ls (hs ++ tail) 0 i (omega (arith, ls-length))
-      ∙ getD-padded (lows (p .box)) (room - length (lows (p .box))) i
+      ∙ getD-padded (lows (p .box)) (mostInputs - length (lows (p .box))) i
 
-  first-high : (i : ℕ) → i < room → getD (firstWords n p) (13 + i) 0 ≡ at (highs (p .box)) i
+  first-high : (i : ℕ) → i < mostInputs → getD (firstWords n p) (place.highs + i) 0 ≡ at (highs (p .box)) i
   unfolding firstWords
   first-high i l =
-      let e : 13 + i ≡ 5 + (length ls + i) = omega (arith, ls-length) in
+      let e : place.highs + i ≡ place.lows + (length ls + i) = omega (arith, ls-length) in
       rw e
       (getD-append-add head (ls ++ (hs ++ tail)) (length ls + i) 0
       ∙ getD-append-add ls (hs ++ tail) i 0
       ∙ List·getD-append hs tail 0 i (omega (arith, hs-length))
-      ∙ getD-padded (highs (p .box)) (room - length (highs (p .box))) i)
+      ∙ getD-padded (highs (p .box)) (mostInputs - length (highs (p .box))) i)
 
-  first-tail : (i : ℕ) → getD (firstWords n p) (21 + i) 0 ≡ getD tail i 0
+  first-tail : (i : ℕ) → getD (firstWords n p) (place.exitLow + i) 0 ≡ getD tail i 0
   unfolding firstWords
   first-tail i =
-      let e : 21 + i ≡ 5 + (length ls + (length hs + i)) = omega (arith, ls-length, hs-length) in
+      let e : place.exitLow + i ≡ place.lows + (length ls + (length hs + i)) = omega (arith, ls-length, hs-length) in
       rw e
       (getD-append-add head (ls ++ (hs ++ tail)) (length ls + (length hs + i)) 0
       ∙ getD-append-add ls (hs ++ tail) (length hs + i) 0
@@ -146,7 +148,7 @@ module _ (n : ℕ) (p : Path) (inputs : length (p .box) ≤ room) (registers : l
   second-few : length (secondWords n p) ≤ payloadWords
   second-few = omega (arith, second-length)
 
-  pub record-length : length (recordOf n p) ≡ pathBytes
+  pub record-length : length (recordOf n p) ≡ recordBytes (length (p .box))
   unfolding recordOf
   record-length = rw (length-append, block-length (firstWords n p) first-few, block-length (secondWords n p) second-few)
 
@@ -174,8 +176,8 @@ module _ (n : ℕ) (p : Path) (f : Fits n p) where
   second-word : (k : ℕ) → k < payloadWords → wordAt (second bytes) k ≡ getD (secondWords n p) k 0
   second-word k l = rw second-is (block-word (secondWords n p) few-again (f .second) k l)
 
-  tail-word : (i : ℕ) → i < 42 → wordAt bytes (21 + i) ≡ getD (tail n p (f .inputs) (f .registers)) i 0
-  tail-word i l = first-word (21 + i) (omega arith) ∙ first-tail n p (f .inputs) (f .registers) i
+  tail-word : (i : ℕ) → place.exitLow + i < payloadWords → wordAt bytes (place.exitLow + i) ≡ getD (tail n p (f .inputs) (f .registers)) i 0
+  tail-word i l = first-word (place.exitLow + i) l ∙ first-tail n p (f .inputs) (f .registers) i
 
   register-word : (r : ℕ) → r < 31 → (wordAt (second bytes) (1 + 2 * r) ≡ registerOf p (1 + r) .low) × (wordAt (second bytes) (2 + 2 * r) ≡ registerOf p (1 + r) .high)
   register-word r l =
@@ -187,13 +189,13 @@ module _ (n : ℕ) (p : Path) (f : Fits n p) where
   record-tells =
       record {
         size = record-length n p (f .inputs) (f .registers);
-        number = first-word 0 (omega arith);
-        kind = first-word 1 (omega arith);
-        pc = first-word 2 (omega arith);
-        steps = first-word 3 (omega arith);
-        inputs = first-word 4 (omega arith);
-        low = λ i l. first-word (5 + i) (omega arith) ∙ first-low n p (f .inputs) (f .registers) i l;
-        high = λ i l. first-word (13 + i) (omega arith) ∙ first-high n p (f .inputs) (f .registers) i l;
+        number = first-word place.number (omega arith);
+        kind = first-word place.kind (omega arith);
+        pc = first-word place.pc (omega arith);
+        steps = first-word place.steps (omega arith);
+        inputs = first-word place.inputs (omega arith);
+        low = λ i l. first-word (place.lows + i) (omega arith) ∙ first-low n p (f .inputs) (f .registers) i l;
+        high = λ i l. first-word (place.highs + i) (omega arith) ∙ first-high n p (f .inputs) (f .registers) i l;
         exit-low = tail-word 0 (omega arith);
         exit-high = tail-word 1 (omega arith);
         reason = tail-word 2 (omega arith);
@@ -223,31 +225,32 @@ records-append n (p ∷ ps) qs =
     let e : n + 1 + length ps ≡ n + suc (length ps) = omega arith in
     rw (records-append (n + 1) ps qs, e, append-assoc)
 
-pub records-length : (m : ℕ) (ps : List Path) → ((p : Path) → p ∈ ps → (length (p .box) ≤ room) × (length (p .registers) ≡ 32))
-    → length (records m ps) ≡ pathBytes * length ps
+-- n is the input count of the paths, m the number of the first
+pub records-length : (n m : ℕ) (ps : List Path) → ((p : Path) → p ∈ ps → (length (p .box) ≤ mostInputs) × (length (p .registers) ≡ 32))
+    → length (records m ps) ≡ recordBytes n * length ps
 unfolding records
-records-length m [] h = refl
-records-length m (p ∷ ps) h =
+records-length n m [] h = refl
+records-length n m (p ∷ ps) h =
     let (a, b) = h p (here refl) in
     omega (
       arith,
       length-append (recordOf m p) (records (m + 1) ps),
       record-length m p a b,
-      records-length (m + 1) ps (λ q i. h q (there i)),
+      records-length n (m + 1) ps (λ q i. h q (there i)),
     )
 
 -- the record of one of them
-pub records-at : (m : ℕ) (ps : List Path) → ((p : Path) → p ∈ ps → (length (p .box) ≤ room) × (length (p .registers) ≡ 32))
-    → (i : ℕ) (p : Path) → getElem? ps i ≡ some p → take pathBytes (drop (pathBytes * i) (records m ps)) ≡ recordOf (m + i) p
+pub records-at : (n m : ℕ) (ps : List Path) → ((p : Path) → p ∈ ps → (length (p .box) ≤ mostInputs) × (length (p .registers) ≡ 32))
+    → (i : ℕ) (p : Path) → getElem? ps i ≡ some p → recordAt n (records m ps) i ≡ recordOf (m + i) p
 unfolding records
-records-at m [] h i p e = let z : _≡_ {A = ℕ} 0 1 = cc in absurd (omega arith)
-records-at m (q ∷ ps) h zero p e =
+records-at n m [] h i p e = let z : _≡_ {A = ℕ} 0 1 = cc in absurd (omega arith)
+records-at n m (q ∷ ps) h zero p e =
     let (a, b) = h q (here refl) in
     let z : q ≡ p = cc in
     let y : m + 0 ≡ m = omega arith in
-    rw (take-at (recordOf m q) (records (m + 1) ps) pathBytes (record-length m q a b), z, y)
-records-at m (q ∷ ps) h (suc i) p e =
+    rw (take-at (recordOf m q) (records (m + 1) ps) (recordBytes n) (record-length m q a b), z, y)
+records-at n m (q ∷ ps) h (suc i) p e =
     let (a, b) = h q (here refl) in
-    let y : pathBytes * suc i ≡ length (recordOf m q) + pathBytes * i = omega (arith, record-length m q a b) in
+    let y : recordBytes n * suc i ≡ length (recordOf m q) + recordBytes n * i = omega (arith, record-length m q a b) in
     let x : m + suc i ≡ m + 1 + i = omega arith in
-    rw (y, drop-append-add (recordOf m q) (records (m + 1) ps) (pathBytes * i), x) (records-at (m + 1) ps (λ r k. h r (there k)) i p e)
+    rw (y, drop-append-add (recordOf m q) (records (m + 1) ps) (recordBytes n * i), x) (records-at n (m + 1) ps (λ r k. h r (there k)) i p e)

@@ -14,46 +14,47 @@ use Rattle.boxes.proofs.TwoLists.{lows-in, highs-in, length-in, at-in}
 use Rattle.listing.specs.Listing.{Path}
 use Rattle.listing.specs.Numbers.{kindNumber, reasonWord}
 use Rattle.blocks.specs.Block.{blockBytes, payloadWords, payload, block}
-use Rattle.blocks.specs.Record.{pathBytes, room, padded, exitWord, firstWords, ends, secondWords, recordOf}
-use Rattle.blocks.specs.Writing.{put, pathIn}
+use Rattle.blocks.specs.Layout as place
+use Rattle.blocks.specs.Record.{recordBytes, mostInputs, padded, exitWord, firstWords, ends, secondWords, recordOf}
+use Rattle.blocks.specs.Writing.{put, pathIn, withPath}
 use Rattle.blocks.specs.declared.record.Ended.{Ended}
 use Rattle.blocks.proofs.Bytes.{payload-length, block-length}
 use Rattle.blocks.proofs.Written.{two-blocks}
 
 -- the first block
 
-pub padded-length : (ws : List ℕ) → length ws ≤ room → length (padded ws) ≡ room
+pub padded-length : (ws : List ℕ) → length ws ≤ mostInputs → length (padded ws) ≡ mostInputs
 padded-length ws l = rw (length-append, length-replicate) (omega arith)
 
-pub first-length : (n : ℕ) (p : Path) → length (p .box) ≤ room → length (firstWords n p) ≡ 25
+pub first-length : (n : ℕ) (p : Path) → length (p .box) ≤ mostInputs → length (firstWords n p) ≡ place.rest
 unfolding firstWords
 first-length n p l =
-    let a : length (lows (p .box)) ≤ room = rw length-map l in
-    let b : length (highs (p .box)) ≤ room = rw length-map l in
+    let a : length (lows (p .box)) ≤ mostInputs = rw length-map l in
+    let b : length (highs (p .box)) ≤ mostInputs = rw length-map l in
     simp (length-append, padded-length (lows (p .box)) a, padded-length (highs (p .box)) b, length-replicate) (omega arith)
 
-drop-zeros : (n m : ℕ) → drop n (replicate {A = ℕ} m 0) ≡ replicate (m - n) 0
+pub drop-zeros : (n m : ℕ) → drop n (replicate {A = ℕ} m 0) ≡ replicate (m - n) 0
 drop-zeros zero m = simp unary-clauses
 drop-zeros (suc n) zero = rw zero-sub
 drop-zeros (suc n) (suc m) = simp unary-clauses (drop-zeros n m)
 
 -- the inputs' words, put where there were zeros
-inputs-put : (front rest ws : List ℕ) (at : ℕ) → length front ≡ at → length ws ≤ room → sets (front ++ (replicate room 0 ++ rest)) at ws ≡ front ++ (padded ws ++ rest)
+inputs-put : (front rest ws : List ℕ) (at : ℕ) → length front ≡ at → length ws ≤ mostInputs → sets (front ++ (replicate mostInputs 0 ++ rest)) at ws ≡ front ++ (padded ws ++ rest)
 inputs-put front rest ws at e few =
-    let z : length (replicate {A = ℕ} room 0) ≡ room = length-replicate {A = ℕ} room 0 in
-    let fits : at + length ws ≤ length (front ++ (replicate room 0 ++ rest)) = rw (length-append, length-append) (omega arith) in
-    sets-eq ws (front ++ (replicate room 0 ++ rest)) at fits
+    let z : length (replicate {A = ℕ} mostInputs 0) ≡ mostInputs = length-replicate {A = ℕ} mostInputs 0 in
+    let fits : at + length ws ≤ length (front ++ (replicate mostInputs 0 ++ rest)) = rw (length-append, length-append) (omega arith) in
+    sets-eq ws (front ++ (replicate mostInputs 0 ++ rest)) at fits
     ∙ rw (
-      take-at front (replicate room 0 ++ rest) at e,
+      take-at front (replicate mostInputs 0 ++ rest) at e,
       ← e,
-      drop-append-add front (replicate room 0 ++ rest) (length ws),
-      drop-append-le (length ws) (replicate room 0) rest (omega arith),
+      drop-append-add front (replicate mostInputs 0 ++ rest) (length ws),
+      drop-append-le (length ws) (replicate mostInputs 0) rest (omega arith),
       drop-zeros,
       append-assoc front ws,
       append-assoc ws,
     )
 
-module _ (p : Ended) (ls hs rls rhs : List ℕ) (few : length ls ≤ room) (same : length ls ≡ length hs) (registers : length rls ≡ length rhs) where
+module _ (p : Ended) (ls hs rls rhs : List ℕ) (few : length ls ≤ mostInputs) (same : length ls ≡ length hs) (registers : length rls ≡ length rhs) where
   abbrev front : List ℕ
   front = p .number ∷ kindNumber (p .end) ∷ p .pc ∷ p .steps ∷ length ls ∷ []
 
@@ -61,26 +62,26 @@ module _ (p : Ended) (ls hs rls rhs : List ℕ) (few : length ls ≤ room) (same
   back = exitWord (p .end) (getD rls 10 0) ∷ exitWord (p .end) (getD rhs 10 0) ∷ reasonWord (p .end) ∷ p .reads ∷ []
 
   abbrev zeros : List ℕ
-  zeros = replicate room 0
+  zeros = replicate mostInputs 0
 
   abbrev unused : List ℕ
-  unused = replicate (payloadWords - 25) 0
+  unused = replicate (payloadWords - place.rest) 0
 
   first-are : firstWords (p .number) (pathIn p ls hs rls rhs) ≡ front ++ (padded ls ++ (padded hs ++ back))
   unfolding firstWords
   first-are = rw (lows-in ls hs same, highs-in ls hs same, length-in ls hs same, at-in rls rhs registers 10)
 
-  first-is : sets (sets (front ++ (zeros ++ (zeros ++ (back ++ unused)))) 5 ls) 13 hs ≡ payload (firstWords (p .number) (pathIn p ls hs rls rhs))
+  first-is : sets (sets (front ++ (zeros ++ (zeros ++ (back ++ unused)))) place.lows ls) place.highs hs ≡ payload (firstWords (p .number) (pathIn p ls hs rls rhs))
   first-is =
-      let n : length (front ++ padded ls) ≡ 13 = rw (length-append, padded-length ls few) in
-      ap (λ (l : List ℕ). sets l 13 hs) (inputs-put front (zeros ++ (back ++ unused)) ls 5 refl few ∙ sym (append-assoc front (padded ls) (zeros ++ (back ++ unused))))
-      ∙ inputs-put (front ++ padded ls) (back ++ unused) hs 13 n (omega arith)
+      let n : length (front ++ padded ls) ≡ place.highs = rw (length-append, padded-length ls few) in
+      ap (λ (l : List ℕ). sets l place.highs hs) (inputs-put front (zeros ++ (back ++ unused)) ls place.lows refl few ∙ sym (append-assoc front (padded ls) (zeros ++ (back ++ unused))))
+      ∙ inputs-put (front ++ padded ls) (back ++ unused) hs place.highs n (omega arith)
       ∙ rw (first-length (p .number) (pathIn p ls hs rls rhs) (rw (length-in ls hs same) few), first-are) (simp append-assoc)
 
   -- the words that are stored, each by what it is
   pub first-made : {k x y z : ℕ} {a b : List ℕ} → k ≡ kindNumber (p .end) → x ≡ exitWord (p .end) (getD rls 10 0) → y ≡ exitWord (p .end) (getD rhs 10 0)
       → z ≡ reasonWord (p .end)
-      → a ≡ sets (p .number ∷ k ∷ p .pc ∷ p .steps ∷ length ls ∷ (zeros ++ (zeros ++ (x ∷ y ∷ z ∷ p .reads ∷ unused)))) 5 ls → b ≡ sets a 13 hs
+      → a ≡ sets (p .number ∷ k ∷ p .pc ∷ p .steps ∷ length ls ∷ (zeros ++ (zeros ++ (x ∷ y ∷ z ∷ p .reads ∷ unused)))) place.lows ls → b ≡ sets a place.highs hs
       → b ≡ payload (firstWords (p .number) (pathIn p ls hs rls rhs))
   first-made kind low high reason first second = second ∙ rw (first, kind, low, high, reason) first-is
 
@@ -119,14 +120,14 @@ block-payload : (ws : List ℕ) → length ws ≤ payloadWords → block (payloa
 unfolding block
 block-payload ws l = rw (payload-length ws l, append-nil (payload ws))
 
-module _ (l : List ℕ) (at n : ℕ) (p : Path) (inputs : length (p .box) ≤ room) (fits : at + pathBytes ≤ length l) where
+module _ (l : List ℕ) (at n : ℕ) (p : Path) (inputs : length (p .box) ≤ mostInputs) (fits : at + recordBytes (length (p .box)) ≤ length l) where
   pub path-written : {first second bs bs′ : List ℕ} → length second ≤ payloadWords → first ≡ payload (firstWords n p) → second ≡ n ∷ ends (drop 1 (p .registers))
-      → bs ≡ put l at (block first) → bs′ ≡ put bs (at + blockBytes) (block second) → bs′ ≡ take at l ++ recordOf n p ++ drop (at + pathBytes) l
+      → bs ≡ put l at (block first) → bs′ ≡ put bs (at + blockBytes) (block second) → bs′ ≡ withPath l at n p
   unfolding recordOf secondWords put
   path-written {first} {second} few e f a b =
       let ws = firstWords n p in
       let n₁ : length ws ≤ payloadWords = omega (arith, first-length n p inputs) in
       let n₂ : length first ≤ payloadWords = rw (e, payload-length ws n₁) (omega arith) in
       let k : block first ++ block second ≡ recordOf n p = rw (e, f, block-payload ws n₁) in
-      let m : length (recordOf n p) ≡ pathBytes = ap length (sym k) ∙ rw (length-append, block-length first n₂, block-length second few) in
+      let m : length (recordOf n p) ≡ recordBytes (length (p .box)) = ap length (sym k) ∙ rw (length-append, block-length first n₂, block-length second few) in
       two-blocks l at first second n₂ fits a b ∙ rw (k, m)

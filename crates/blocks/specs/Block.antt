@@ -1,6 +1,6 @@
 -- Blocks of 512 bytes: 64 little-endian words of 64 bits, the last of which checks the others.
 use Prim.Native.Nat.{ℕ, zero, suc, _+_, _-_, _*_, _/_, _%_, _^_}
-use mathlib.Core.Bool.{Bool}
+use mathlib.Core.Bool.{Bool, true, _&&_}
 use mathlib.Core.List.{List, [], _∷_, _++_, map, flatMap}
 use lib.Dec.{eqb}
 use lib.ListN.{length, take, drop, replicate}
@@ -55,3 +55,20 @@ block ws = flatMap (bytesOf wordBytes) (payload ws ++ (check (payload ws) ∷ []
 -- whether word 63 of a block checks words 0 to 62
 abbrev pub agrees : List ℕ → Bool
 agrees bytes = eqb (check (map (wordAt bytes) (from 0 payloadWords))) (wordAt bytes payloadWords)
+
+-- Blocks, one behind the other.
+
+abbrev pub blockCount : List ℕ → ℕ
+blockCount bytes = length bytes / blockBytes
+
+-- whether a test holds of the n numbers k, k + 1, ..
+unfoldable pub each : (ℕ → Bool) → ℕ → ℕ → Bool
+each p k zero = true
+each p k (suc n) = p k && each p (suc k) n
+
+-- whether every check agrees
+abbrev pub blockAgrees : List ℕ → ℕ → Bool
+blockAgrees bytes k = agrees (drop (k * blockBytes) bytes)
+
+unfoldable pub checksAgree : List ℕ → Bool
+checksAgree bytes = each (blockAgrees bytes) 0 (blockCount bytes)

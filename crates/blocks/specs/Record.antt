@@ -9,15 +9,16 @@ use Rattle.listing.specs.declared.End.{End}
 use Rattle.listing.specs.declared.End.the-variants.{Exit, DivisionByZero, BadPc, BadWord, BadAddress, BadCall, StepLimit, NotFollowed, TraceFull}
 use Rattle.blocks.specs.Block.{blockBytes, block}
 
-abbrev pub pathBytes : ℕ
-pathBytes = 2 * blockBytes
+-- the size of a record of so many inputs
+abbrev pub recordBytes : ℕ → ℕ
+recordBytes n = 2 * blockBytes
 
--- inputs that a record has room for; unused inputs are 0
-abbrev pub room : ℕ
-room = 8
+-- inputs that a record has places for; unused inputs are 0
+abbrev pub mostInputs : ℕ
+mostInputs = 8
 
 abbrev pub padded : List ℕ → List ℕ
-padded ws = ws ++ replicate (room - length ws) 0
+padded ws = ws ++ replicate (mostInputs - length ws) 0
 
 -- the interval of a register
 abbrev pub registerOf : Path → ℕ → Interval
@@ -38,7 +39,7 @@ exitWord TraceFull v = 0
 abbrev pub exitOf : Path → Interval
 exitOf p = exitWord (p .end) (registerOf p 10 .low) ⋯ exitWord (p .end) (registerOf p 10 .high)
 
--- the first block: number, kind, pc, steps, input count, lows, highs, low and high of the exit value, reason, inputs read
+-- the first block, in the order of its places (Layout): number, kind, pc, steps, input count, lows, highs, low and high of the exit value, reason, inputs read
 unfoldable pub firstWords : ℕ → Path → List ℕ
 firstWords n p =
     n ∷ kindNumber (p .end) ∷ p .pc ∷ p .steps ∷ length (p .box) ∷ (

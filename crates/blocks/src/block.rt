@@ -1,4 +1,5 @@
 // A block: at most 63 words, zeros, and the check of them.
+use crate::BLOCK_BYTES;
 use crate::PAYLOAD_WORDS;
 use crate::WORD_BYTES;
 use crate::words::put_word;
@@ -10,7 +11,7 @@ ghost use Prim.Native.Nat.{_+_, _≤_};
 ghost use lib.ListN.{length, getD, drop};
 ghost use Rattle.boxes.specs.Boxes.{from};
 ghost use Rattle.blocks.specs.Block as B;
-ghost use Rattle.blocks.specs.Block.{blockBytes, payloadWords, wordAt, check, block, agrees};
+ghost use Rattle.blocks.specs.Block.{blockBytes, payloadWords, wordAt, check, block, agrees, checksAgree};
 ghost use Rattle.blocks.specs.Writing.{put};
 
 // What the running sum of a check starts at.
@@ -27,7 +28,7 @@ fn turned(s: u64) -> u64
 }
 
 // The check of words 0 to 62 of the block at `at`.
-pub fn check_of(bytes: &[u8], at: usize) -> u64
+fn check_of(bytes: &[u8], at: usize) -> u64
     requires { ⌜ at + blockBytes ≤ length (now bytes) ⌝ }
     ensures { λ r. ⌜ r ≡ check (map (wordAt (drop at (now (bytes .entry)))) (from 0 payloadWords)) ⌝ }
 {
@@ -41,11 +42,26 @@ pub fn check_of(bytes: &[u8], at: usize) -> u64
 }
 
 // Whether word 63 of the block at `at` checks the others.
-pub fn checked(bytes: &[u8], at: usize) -> bool
+fn checked(bytes: &[u8], at: usize) -> bool
     requires { ⌜ at + blockBytes ≤ length (now bytes) ⌝ }
     ensures { λ r. ⌜ r ≡ agrees (drop at (now (bytes .entry))) ⌝ }
 {
     check_of(bytes, at) == word_at(bytes, at + CHECK_AT)
+}
+
+// Whether every block of these bytes agrees with its check; bytes behind the last whole block are not asked.
+pub fn checks_agree(bytes: &[u8]) -> bool
+    ensures { λ r. ⌜ r ≡ checksAgree (now (bytes .entry)) ⌝ }
+{
+    let n = bytes.len() / BLOCK_BYTES;
+    let mut k: usize = 0;
+    while k < n {
+        if !checked(bytes, k * BLOCK_BYTES) {
+            return false;
+        }
+        k += 1;
+    }
+    true
 }
 
 // The word at a place, and 0 past the end.

@@ -1,8 +1,10 @@
 // Blocks of 512 bytes, as document 01 lays them out; what a reader must believe stands in specs/.
-// `words` reads and writes one word, `block` the check and a whole block, `record` writes an ended path's two blocks.
+// `words` reads and writes one word, `block` the check and a whole block, `record` writes an ended path's two blocks, `report` reads them back.
 // The laws say that what is written is what is read, and that the check tells a changed word.
 pub mod block;
+pub mod layout;
 pub mod record;
+pub mod report;
 pub mod words;
 
 pub const WORD_BYTES: usize = 8;
@@ -17,5 +19,5 @@ pub const PAYLOAD_WORDS: usize = BLOCK_WORDS - 1;
 // A path takes two blocks.
 pub const PATH_BYTES: usize = 2 * BLOCK_BYTES;
 
-// Inputs that a record has room for.
-pub const ROOM: usize = 8;
+// Inputs that a record has places for.
+pub const MOST_INPUTS: usize = 8;

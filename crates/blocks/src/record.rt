@@ -2,18 +2,29 @@
 use crate::BLOCK_BYTES;
 use crate::PAYLOAD_WORDS;
 use crate::block::put_block;
+use crate::layout::EXIT_HIGH;
+use crate::layout::EXIT_LOW;
+use crate::layout::HIGHS;
+use crate::layout::INPUTS;
+use crate::layout::KIND;
+use crate::layout::LOWS;
+use crate::layout::NUMBER;
+use crate::layout::PC;
+use crate::layout::READS;
+use crate::layout::REASON;
+use crate::layout::STEPS;
 use listing::End;
 use listing::kind_number;
 use listing::reason_word;
 ghost use mathlib.Core.Path.{_≡_};
-ghost use mathlib.Core.List.{_∷_, _++_};
+ghost use mathlib.Core.List.{_∷_};
 ghost use Prim.Native.Nat.{_+_, _≤_};
-ghost use lib.ListN.{length, take, drop};
+ghost use lib.ListN.{length, drop};
 ghost use lib.Seq.{sets};
 ghost use Rattle.boxes.specs.Cuts.{boxIn};
 ghost use Rattle.blocks.specs.Block.{payloadWords, payload};
-ghost use Rattle.blocks.specs.Record.{room, pathBytes, exitWord, ends, firstWords, recordOf};
-ghost use Rattle.blocks.specs.Writing.{pathIn};
+ghost use Rattle.blocks.specs.Record.{mostInputs, recordBytes, exitWord, ends, firstWords};
+ghost use Rattle.blocks.specs.Writing.{pathLent, withPath};
 
 // An ended path, but for its inputs and registers, which come beside it.
 pub struct Ended {
@@ -70,23 +81,23 @@ fn first_words(
     register_lows: &[u64; 32],
     register_highs: &[u64; 32],
 ) -> [u64; PAYLOAD_WORDS]
-    requires { ⌜ (length (now lows) ≤ room) × (length (now lows) ≡ length (now highs)) ⌝ }
-    ensures { λ r. ⌜ r ≡ payload (firstWords (p .number) (pathIn p (now (lows .entry)) (now (highs .entry)) (now («register_lows» .entry)) (now («register_highs» .entry)))) ⌝ }
+    requires { ⌜ (length (now lows) ≤ mostInputs) × (length (now lows) ≡ length (now highs)) ⌝ }
+    ensures { λ r. ⌜ r ≡ payload (firstWords (p .number) (pathLent p lows highs «register_lows» «register_highs»)) ⌝ }
 {
     let end = p.end;
     let l = whole(register_lows);
     let h = whole(register_highs);
     let mut words = [0u64; PAYLOAD_WORDS];
-    words[0] = p.number;
-    words[1] = kind_number(end);
-    words[2] = p.pc;
-    words[3] = p.steps;
-    words[4] = lows.len() as u64;
-    words[21] = exit_word(end, l[10]);
-    words[22] = exit_word(end, h[10]);
-    words[23] = reason_word(end);
-    words[24] = p.reads;
-    with_words(with_words(words, 5, lows), 13, highs)
+    words[NUMBER] = p.number;
+    words[KIND] = kind_number(end);
+    words[PC] = p.pc;
+    words[STEPS] = p.steps;
+    words[INPUTS] = lows.len() as u64;
+    words[EXIT_LOW] = exit_word(end, l[10]);
+    words[EXIT_HIGH] = exit_word(end, h[10]);
+    words[REASON] = reason_word(end);
+    words[READS] = p.reads;
+    with_words(with_words(words, LOWS, lows), HIGHS, highs)
 }
 
 // The words of a path's second block.
@@ -116,8 +127,8 @@ pub fn put_path(
     register_lows: &[u64; 32],
     register_highs: &[u64; 32],
 )
-    requires { ⌜ (at + pathBytes ≤ length (now report)) × (length (now lows) ≤ room) × (length (now lows) ≡ length (now highs)) ⌝ }
-    ensures { λ _. ⌜ now (report .exit) ≡ take at (now (report .entry)) ++ recordOf (p .number) (pathIn p (now (lows .entry)) (now (highs .entry)) (now («register_lows» .entry)) (now («register_highs» .entry))) ++ drop (at + pathBytes) (now (report .entry)) ⌝ }
+    requires { ⌜ (at + recordBytes (length (now lows)) ≤ length (now report)) × (length (now lows) ≤ mostInputs) × (length (now lows) ≡ length (now highs)) ⌝ }
+    ensures { λ _. ⌜ now (report .exit) ≡ withPath (now (report .entry)) at (p .number) (pathLent p lows highs «register_lows» «register_highs») ⌝ }
 {
     let first = first_words(p, lows, highs, register_lows, register_highs);
     put_block(report, at, &first);

@@ -1,7 +1,8 @@
--- What one more question does to the door, and two more numbers to the order of the intervals. Assumes nothing.
-use mathlib.Core.Path.{_≡_, refl, _∙_}
+-- What one more question does to the first no, and two more numbers to the order of the intervals. Assumes nothing.
+use mathlib.Core.Path.{_≡_, refl, sym, _∙_}
 use mathlib.Core.Bool.{Bool, true, false, not, _&&_}
 use mathlib.Core.List.{List, [], _∷_}
+use mathlib.Core.Option.{none, some}
 use Prim.Native.Nat.{ℕ, suc, _+_, _-_, _<_, _≤_}
 use native.Mathlib.Numerals.{add-one}
 use native.Mathlib.Omega.{arith}
@@ -9,26 +10,33 @@ use borrow.Author.Tests.{lt-leb, le-leb, not-true, not-false}
 use lib.Dec.{leb}
 use lib.ListN.{length, getD, drop, length-drop}
 use lib.Seq.{drop-cons}
+use Rattle.boxes.proofs.Lists.{by-test}
 use Rattle.calls.specs.Call.{boxOf, inOrder, firstNo}
-use Rattle.calls.specs.Door.{doorAs}
-use Rattle.calls.specs.declared.Refusal.{Refusal}
-use Rattle.calls.specs.declared.Door.{Door}
-use Rattle.calls.specs.declared.Door.the-variants.{Open, Closed}
 
--- a yes, a no, and no further question
-module _ (answer : Refusal → Bool) where
-  pub goes : (r : Refusal) (rs : List Refusal) {d : Door} → not (answer r) ≡ false → d ≡ doorAs (firstNo answer rs)
-      → d ≡ doorAs (firstNo answer (r ∷ rs))
+-- a yes, a no, and no further question; the code's answer t is the definition's
+module _ {A : Type 0} (answer : A → Bool) where
+  pub yes-on : (r : A) (rs : List A) → answer r ≡ true → firstNo answer (r ∷ rs) ≡ firstNo answer rs
   unfolding firstNo
-  goes r rs e h = rw (not-false (answer r) e) h
+  yes-on r rs e = rw e
 
-  pub stops : (r : Refusal) (rs : List Refusal) → not (answer r) ≡ true → Closed r ≡ doorAs (firstNo answer (r ∷ rs))
-  unfolding firstNo
-  stops r rs e = rw (not-true (answer r) e)
+  pub goes : (r : A) (rs : List A) {t : Bool} → t ≡ answer r → not t ≡ false → firstNo answer rs ≡ firstNo answer (r ∷ rs)
+  goes r rs {t} e y = sym (yes-on r rs (sym e ∙ not-false t y))
 
-  pub opens : Open ≡ doorAs (firstNo answer [])
+  pub stops : (r : A) (rs : List A) {t : Bool} → t ≡ answer r → not t ≡ true → some r ≡ firstNo answer (r ∷ rs)
   unfolding firstNo
-  opens = refl
+  stops r rs {t} e n = rw (sym e ∙ not-true t n)
+
+  pub passes : none ≡ firstNo answer []
+  unfolding firstNo
+  passes = refl
+
+  -- no first no: each question was answered yes
+  pub passed : (r : A) (rs : List A) → firstNo answer (r ∷ rs) ≡ none → (answer r ≡ true) × (firstNo answer rs ≡ none)
+  unfolding firstNo
+  passed r rs e =
+      by-test (answer r)
+      (λ y. (y, rw y at e))
+      (λ n. let f : some r ≡ none = rw n at e in let z : _≡_ {A = ℕ} 0 1 = cc in absurd (omega arith))
 
 short : (v : List ℕ) → length v < 2 → inOrder (boxOf v) ≡ true
 unfolding inOrder boxOf

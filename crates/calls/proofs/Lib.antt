@@ -1,3 +1,3 @@
--- The laws that the questions at the door are proved by.
---     Asked       one more question at the door; two more numbers of the intervals
+-- The laws that the questions are proved by.
+--     Asked       one more question; two more numbers of the intervals
 pub mod Asked

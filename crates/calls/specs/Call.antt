@@ -1,4 +1,4 @@
--- One call: what is lent, the questions at the door, and what the call leaves.
+-- One call: what is lent, the questions, and what the call leaves.
 use Prim.Native.Nat.{ℕ, _+_, _*_, _/_, _%_, _^_, _<_}
 use mathlib.Core.Bool.{Bool, true, false, cond, _&&_}
 use mathlib.Core.List.{List, [], _∷_, _++_}
@@ -8,7 +8,10 @@ use lib.ListN.{length, getD, take, drop, replicate}
 use Rattle.boxes.specs.Boxes.{Box, _⋯_}
 use Rattle.listing.specs.Group.{Job}
 use Rattle.listing.specs.Listing.{Path, listing}
-use Rattle.blocks.specs.Record.{room, pathBytes, records}
+use Rattle.riscu.specs.Limits.{codeWords, memoryWords}
+use Rattle.blocks.specs.Record.{mostInputs, recordBytes, records}
+use Rattle.blocks.specs.Report.{recordsIn}
+use Rattle.calls.specs.Limits.{mostSteps, entryWords, firstEnd}
 use Rattle.calls.specs.declared.Refusal.{Refusal}
 use Rattle.calls.specs.declared.Refusal.the-variants.{Code, Inputs, Order, Limit, Table, Memory, Report, First}
 use Rattle.calls.specs.declared.Answer.{Answer}
@@ -25,6 +28,10 @@ pub record Call : Type 0 where
 abbrev pub callOf : List ℕ → List ℕ → ℕ → List ℕ → ℕ → Call
 callOf code intervals limit report first =
     record { code = code; intervals = intervals; limit = limit; report = report; first = first }
+
+-- how many inputs it has
+abbrev pub inputsOf : Call → ℕ
+inputsOf c = length (c .intervals) / 2
 
 -- What the types of the lent parts say: the numbers of a list are below a bound.
 
@@ -73,37 +80,37 @@ unfoldable pub inOrder : Box → Bool
 inOrder [] = true
 inOrder (v ∷ b) = leb (v .low) (v .high) && inOrder b
 
--- the questions at the door, each under the refusal that answers its no; `words` is the number of words of the table
+-- the questions, each under the refusal that answers its no; `words` is the number of words of the table
 unfoldable pub asks : List ℕ → ℕ → Call → Refusal → Bool
-asks memory words c Code = leb 1 (length (c .code)) && leb (length (c .code)) 1024
-asks memory words c Inputs = eqb (length (c .intervals) % 2) 0 && leb (length (c .intervals)) (2 * room)
+asks memory words c Code = leb 1 (length (c .code)) && leb (length (c .code)) codeWords
+asks memory words c Inputs = eqb (length (c .intervals) % 2) 0 && leb (length (c .intervals)) (2 * mostInputs)
 asks memory words c Order = inOrder (boxOf (c .intervals))
-asks memory words c Limit = leb 1 (c .limit) && leb (c .limit) 65536
-asks memory words c Table = leb 8 words
-asks memory words c Memory = eqb (length memory) 512
-asks memory words c Report = eqb (length (c .report) % pathBytes) 0 && leb 1 (length (c .report))
-asks memory words c First = ltb (c .first) (2 ^ 32)
+asks memory words c Limit = leb 1 (c .limit) && leb (c .limit) mostSteps
+asks memory words c Table = leb entryWords words
+asks memory words c Memory = eqb (length memory) memoryWords
+asks memory words c Report = eqb (length (c .report) % recordBytes (inputsOf c)) 0 && leb 1 (length (c .report))
+asks memory words c First = ltb (c .first) firstEnd
 
 abbrev pub questions : List Refusal
 questions = Code ∷ Inputs ∷ Order ∷ Limit ∷ Table ∷ Memory ∷ Report ∷ First ∷ []
 
--- the first no
-unfoldable pub firstNo : (Refusal → Bool) → List Refusal → Option Refusal
+-- the first of some questions that is answered no
+unfoldable pub firstNo : {A : Type 0} → (A → Bool) → List A → Option A
 firstNo answer [] = none
 firstNo answer (r ∷ rs) = cond (answer r) (firstNo answer rs) (some r)
 
 -- the first no decides
-abbrev pub door : List ℕ → ℕ → Call → Option Refusal
-door memory words c = firstNo (asks memory words c) questions
+abbrev pub refusalOf : List ℕ → ℕ → Call → Option Refusal
+refusalOf memory words c = firstNo (asks memory words c) questions
 
--- what an accepted call feeds the plain listing; 8 words of the table make one entry
+-- what an accepted call feeds the plain listing
 unfoldable pub jobOf : List ℕ → ℕ → Call → Job
 jobOf memory words c =
-    record { code = c .code; memory = memory; limit = c .limit; box = boxOf (c .intervals); entries = words / 8 }
+    record { code = c .code; memory = memory; limit = c .limit; box = boxOf (c .intervals); entries = words / entryWords }
 
 -- the paths that a page holds: from the first wanted on, as many as exist and fit
 unfoldable pub page : Job → Call → List Path
-page j c = take (length (c .report) / pathBytes) (drop (c .first) (listing j))
+page j c = take (recordsIn (inputsOf c) (c .report)) (drop (c .first) (listing j))
 
 -- what the plain listing gives for a call: the answer, and the report as the call leaves it
 pub record Reply : Type 0 where
@@ -117,11 +124,11 @@ replyBy memory words c none =
     let ps = page (jobOf memory words c) c in
     record {
       answer = Page (length ps) (ltb (c .first + length ps) (length l));
-      report = records (c .first) ps ++ drop (pathBytes * length ps) (c .report);
+      report = records (c .first) ps ++ drop (recordBytes (inputsOf c) * length ps) (c .report);
     }
 
 unfoldable pub replyTo : List ℕ → ℕ → Call → Reply
-replyTo memory words c = replyBy memory words c (door memory words c)
+replyTo memory words c = replyBy memory words c (refusalOf memory words c)
 
 -- the table after a call: zero if it was accepted
 unfoldable pub tableBy : List ℕ → Option Refusal → List ℕ
@@ -141,6 +148,6 @@ unfoldable pub called : List ℕ → List ℕ → Call → Left
 called memory table c =
     record {
       reply = replyTo memory (length table) c;
-      table = tableBy table (door memory (length table) c);
+      table = tableBy table (refusalOf memory (length table) c);
       memory = memory;
     }

@@ -1,14 +1,16 @@
 -- What a reader must believe of a call.
---     Call        what is lent, the questions at the door, what a call leaves
---     Door        the answer's numbers at the border
+--     Limits      the limits that the questions name
+--     Call        what is lent, the questions, what a call leaves
+--     Border      the answer's numbers at the border, and what is lent, as contracts name it
 --     Engine      an engine, the contract of its calls, histories of calls
 --     Refuses     demand 1: refusals and their causes
 --     Faithful    demand 2: what a path says of the plain machine
 --     Complete    the listing of a job as a whole
 --     Reported    demand 2 of the bytes of a report
 --     Together    demand 3: a list of calls on one memory and one table
+pub mod Limits
 pub mod Call
-pub mod Door
+pub mod Border
 pub mod Engine
 pub mod Refuses
 pub mod Faithful

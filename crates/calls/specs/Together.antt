@@ -7,8 +7,8 @@ use lib.ListN.{length, take, replicate}
 use Rattle.boxes.specs.Boxes.{keep}
 use Rattle.listing.specs.Group.{Job}
 use Rattle.listing.specs.Listing.{listing}
-use Rattle.blocks.specs.Record.{pathBytes, records}
-use Rattle.calls.specs.Call.{Call, written, more, isPage, jobOf, page, replyTo}
+use Rattle.blocks.specs.Record.{recordBytes, records}
+use Rattle.calls.specs.Call.{Call, inputsOf, written, more, isPage, jobOf, page, replyTo}
 use Rattle.calls.specs.Engine.{Exchange}
 use Rattle.calls.specs.Complete.{Complete}
 
@@ -44,7 +44,7 @@ pub data Pages (c : Call) : ℕ → List Exchange → Type 0 where
 
 -- the bytes that a call wrote
 abbrev pub bytesWritten : Exchange → List ℕ
-bytesWritten x = take (pathBytes * written (x .left .reply .answer)) (x .left .reply .report)
+bytesWritten x = take (recordBytes (inputsOf (x .call)) * written (x .left .reply .answer)) (x .left .reply .report)
 
 -- The joined pages are the whole listing, path by path and byte by byte.
 pub record Joined (j : Job) (xs : List Exchange) : Type 0 where

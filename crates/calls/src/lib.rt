@@ -1,13 +1,13 @@
-// A call of the explorer: what is lent, the questions at the door, what the call leaves, and the demands as statements about every
+// A call of the explorer: what is lent, the questions, what the call leaves, and the demands as statements about every
 // engine whose calls leave that. What a reader must believe stands in specs/; the crate `demands` proves the statements.
-// The code is the answer with its numbers, and `questions`, which asks the questions at the door.
+// The code is the answer with its numbers, and `questions`, which asks the questions.
 ghost use mathlib.Core.Path.{_≡_};
 ghost use Rattle.calls.specs.Call.{number};
-ghost use Rattle.calls.specs.Door.{yesNumber, replyOf};
+ghost use Rattle.calls.specs.Border.{yesNumber, replyOf};
 
 pub mod questions;
 
-// Why a call is refused: document 01's questions at the door, each with its number.
+// Why a call is refused: document 01's questions, each with its number.
 pub enum Refusal {
     Code,
     Inputs,
@@ -20,9 +20,9 @@ pub enum Refusal {
 }
 
 // What the questions come to: none is answered no, or the first that is.
-pub enum Door {
-    Open,
-    Closed(Refusal),
+pub enum Questioned {
+    AllYes,
+    No(Refusal),
 }
 
 // What a call answers.

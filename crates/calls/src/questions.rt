@@ -1,17 +1,16 @@
-// The questions at the door, asked in document 01's order; the first no decides.
-use crate::Door;
+// The questions, asked in document 01's order; the first no decides.
+use crate::Questioned;
 use crate::Refusal;
-use blocks::PATH_BYTES;
-use blocks::ROOM;
+use blocks::MOST_INPUTS;
+use blocks::report::record_bytes;
 use riscu::plain::Machine;
 ghost use mathlib.Core.Path.{_≡_};
-ghost use lib.ListN.{length};
-ghost use Rattle.calls.specs.Call.{callOf, boxOf, inOrder, door};
-ghost use Rattle.calls.specs.Door.{doorAs};
+ghost use Rattle.calls.specs.Call.{boxOf, inOrder};
+ghost use Rattle.calls.specs.Border.{refusalIn, callLent, refusalOn};
 
 pub const CODE_WORDS: usize = 1024;
 
-pub const STEPS: u64 = 65536;
+pub const MOST_STEPS: u64 = 65536;
 
 // The words of one table entry: the least table.
 pub const ENTRY_WORDS: usize = 8;
@@ -42,32 +41,32 @@ pub fn ask(
     table: &[u64],
     report: &[u8],
     first: u64,
-) -> Door
-    ensures { λ r. ⌜ r ≡ doorAs (door (now (memory .entry)) (length (now (table .entry))) (callOf (now (code .entry)) (now (intervals .entry)) limit (now (report .entry)) first)) ⌝ }
+) -> Questioned
+    ensures { λ r. ⌜ refusalIn r ≡ refusalOn memory table (callLent code intervals limit report first) ⌝ }
 {
     if !((1 <= code.len()) & (code.len() <= CODE_WORDS)) {
-        return Door::Closed(Refusal::Code);
+        return Questioned::No(Refusal::Code);
     }
-    if !((intervals.len() % 2 == 0) & (intervals.len() <= 2 * ROOM)) {
-        return Door::Closed(Refusal::Inputs);
+    if !((intervals.len() % 2 == 0) & (intervals.len() <= 2 * MOST_INPUTS)) {
+        return Questioned::No(Refusal::Inputs);
     }
     if !in_order(intervals) {
-        return Door::Closed(Refusal::Order);
+        return Questioned::No(Refusal::Order);
     }
-    if !((1 <= limit) & (limit <= STEPS)) {
-        return Door::Closed(Refusal::Limit);
+    if !((1 <= limit) & (limit <= MOST_STEPS)) {
+        return Questioned::No(Refusal::Limit);
     }
     if !(ENTRY_WORDS <= table.len()) {
-        return Door::Closed(Refusal::Table);
+        return Questioned::No(Refusal::Table);
     }
     if !(memory.len() == Machine::MEMORY_WORDS) {
-        return Door::Closed(Refusal::Memory);
+        return Questioned::No(Refusal::Memory);
     }
-    if !((report.len() % PATH_BYTES == 0) & (1 <= report.len())) {
-        return Door::Closed(Refusal::Report);
+    if !((report.len() % record_bytes(intervals.len() / 2) == 0) & (1 <= report.len())) {
+        return Questioned::No(Refusal::Report);
     }
     if !(first < FIRST_END) {
-        return Door::Closed(Refusal::First);
+        return Questioned::No(Refusal::First);
     }
-    Door::Open
+    Questioned::AllYes
 }

@@ -14,14 +14,16 @@ use Rattle.boxes.proofs.Lists.{_∈_, map-eq}
 use Rattle.riscu.specs.Word.{size, signed, widen, powerBelow}
 use Rattle.riscu.specs.Decode.{rows, search, decodeOf}
 use Rattle.riscu.specs.Machine.{start, operate, readNext, step, fetch, stepDecoded, run}
-use Rattle.riscu.proofs.Whole.{AllWords, words-zero}
-use Rattle.listing.specs.Group.{Job, Group, after, sortOf, comparison, classOf}
-use Rattle.listing.specs.Ending.{first, anyPower, operationPoints, points, writes, needs, endAt, endBy}
+use Rattle.riscu.proofs.Whole.{words-zero}
+use Rattle.listing.specs.Group.{Job, Group, after, sortOf, comparison, sortingOf, classBy, classOf}
+use Rattle.listing.specs.Ending.{first, anyPower, operationPoints, operandPoints, addressPoints, points}
+use Rattle.listing.specs.Ending.{writes, needs, endAt, endBy}
 use Rattle.listing.specs.Listing.{Path, pathOf, splitBy, moveBy, moveFrom, moves, begin, listing}
 use Rattle.listing.specs.Numbers.{kindNumber, reasonWord}
-use Rattle.corners.proofs.Uniform.{Sound, tagStep, tagDecoded, tagsAt, classTag}
-use Rattle.corners.proofs.Corner.{cornersOf}
 use Rattle.corners.proofs.CornerListing.{listing-is}
+use Rattle.riscu.specs.Whole.{AllWords}
+use Rattle.corners.specs.Good.{Sound, cornersOf}
+use Rattle.corners.specs.Tags.{tagStep, tagDecoded, tagsAt, tagBy, classTag}
 
 -- what a case says of a path: kind, pc, steps, box, register 10 (for kind 1 the exit value), and the reason of kind 8
 pub record Line : Type 0 where
@@ -192,9 +194,9 @@ table =
 -- the whole table, by one computation
 outcomes : map outcome table ≡ map wanted table
 unfolding every moves moveFrom moveBy splitBy pathOf from begin
-    endBy endAt needs writes points operationPoints powerBelow anyPower first
-    cornerPieces edge bisect tagsAt tagDecoded tagStep classTag
-    classOf sortOf comparison after run stepDecoded fetch step readNext operate start decodeOf search rows signed widen
+    endBy endAt needs writes points addressPoints operandPoints operationPoints powerBelow anyPower first
+    cornerPieces edge bisect tagsAt tagDecoded tagStep classTag tagBy
+    classOf classBy sortingOf sortOf comparison after run stepDecoded fetch step readNext operate start decodeOf search rows signed widen
 outcomes = refl
 
 pub cases-right : (x : ℕ × Case) → x ∈ table → Right (x .1)

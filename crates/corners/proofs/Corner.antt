@@ -6,66 +6,40 @@ use mathlib.Core.Logic.{inl}
 use mathlib.Core.Bool.{Bool, false, not}
 use mathlib.Core.List.{List, [], _∷_, _++_}
 use mathlib.Core.Option.{Option, none, some}
-use Prim.Native.Nat.{ℕ, _+_, _-_, _/_, _<_, min, max}
+use Prim.Native.Nat.{ℕ, _+_, _-_}
 use native.Mathlib.Omega.{arith}
-use lib.Dec.{eqb, ltb}
+use lib.Dec.{ltb}
 use lib.IntN.{ℤ}
 use lib.ListN.{getD}
-use Rattle.boxes.specs.Boxes.{Choice, Proper, lows, highs, Inside}
-use Rattle.boxes.specs.Cuts.{OneInput, cornerPieces}
+use Rattle.boxes.specs.Boxes.{Choice, Proper, Inside}
+use Rattle.boxes.specs.Cuts.{OneInput}
 use Rattle.boxes.proofs.Lists.{by-test}
 use Rattle.boxes.proofs.OneInput.{fixed-corner, low-corner, high-corner, one-input-constant}
 use Rattle.boxes.proofs.Corners.{corner-pieces}
-use Rattle.riscu.specs.Machine.{State, reg, offset}
-use Rattle.riscu.specs.Decode.{decodeOf}
+use Rattle.riscu.specs.Machine.{State, reg, offset, fetch}
 use Rattle.riscu.specs.declared.Operation.{Operation}
 use Rattle.riscu.specs.declared.Operation.the-variants.{Add, Sub, Mul, Divu, Remu, Sltu}
 use Rattle.riscu.specs.declared.Instruction.{Instruction}
 use Rattle.riscu.specs.declared.Instruction.the-variants.{Lui, Addi, Register, Ld, Sd, Beq, Jal, Jalr, Ecall}
 use Rattle.riscu.specs.declared.Decoded.{Decoded}
 use Rattle.riscu.specs.declared.Decoded.the-variants.{Row, NoRow}
-use Rattle.riscu.proofs.Whole.{Whole}
-use Rattle.listing.specs.Group.{Job, Group, after, sortOf, classOf, View, viewOf}
-use Rattle.listing.specs.Ending.{Point, first, badAddress, operationPoints, points, needs, endAt, endBy, endOf}
+use Rattle.listing.specs.Group.{Job, Group, after, sortOf, sortingOf, operand, classOf, View, viewOf}
+use Rattle.listing.specs.Ending.{Point, first, badAddress, operandOpen, operandValue, bothOpen, farApart}
+use Rattle.listing.specs.Ending.{operationPoints, operandPoints, addressPoints, points, needs, endAt, endBy, endOf}
+use Rattle.listing.specs.declared.Operand.{Operand}
+use Rattle.listing.specs.declared.Operand.the-variants.{InRegister, Constant}
+use Rattle.listing.specs.declared.Sorting.{Sorting}
+use Rattle.listing.specs.declared.Sorting.the-variants.{Operates, Compares, Nothing}
 use Rattle.listing.specs.declared.End.{End}
 use Rattle.listing.specs.declared.End.the-variants.{TraceFull}
-use Rattle.corners.proofs.Operations.{EitherOpen}
-use Rattle.corners.proofs.Tame.{Same, OneSame, sort-one-input}
-use Rattle.corners.proofs.Smooth.{Settled, Smooth}
-use Rattle.corners.proofs.Uniform.{Uniform, Sound, tagsAt, classTag, class-uniform, whole-after, uniform-after}
-use Rattle.corners.proofs.Followed.{closed, not-both, points-followed}
-
--- a group whose earlier steps are all smooth on its box
-pub record Good (j : Job) (g : Group) : Type 0 where
-  pub sound : Sound j (g .box)
-  pub smooth : (m : ℕ) → m < g .steps → Smooth j (g .box) m
-
--- the machines at the two corners, and the input that the class of an instruction hangs on
-module _ (j : Job) (g : Group) where
-  abbrev pub lowState : State
-  lowState = after j (g .steps) (lows (g .box))
-
-  abbrev pub highState : State
-  highState = after j (g .steps) (highs (g .box))
-
-  abbrev pub inputOf : Instruction → ℕ
-  inputOf i = classTag i lowState highState (tagsAt j (g .box) (g .steps))
-
--- the view that the two corners give; the classes there say how many cuts there can be
-abbrev pub cornersOf : Job → Group → View
-cornersOf j g =
-    let l = lowState j g in
-    let h = highState j g in
-    record {
-      isOpen = λ f. not (eqb (f l) (f h));
-      lowest = λ f. min (f l) (f h);
-      highest = λ f. max (f l) (f h);
-      pc = l .pc;
-      reads = l .reads;
-      piecesOf = λ i.
-          cornerPieces (max (classOf i l) (classOf i h) - min (classOf i l) (classOf i h)) (λ c. classOf i (after j (g .steps) c))
-          (inputOf j g i) (g .box);
-    }
+use Rattle.corners.proofs.Tame.{sort-one-input}
+use Rattle.corners.proofs.Uniform.{Uniform, WordIn, WordsIn, sorting-words, operand-one, operand-word, class-uniform}
+use Rattle.corners.proofs.Uniform.{whole-after, uniform-after}
+use Rattle.corners.proofs.Followed.{otherwise, first-append, closed, operand-closed, not-both, points-followed}
+use Rattle.riscu.specs.Whole.{Whole}
+use Rattle.corners.specs.Smooth.{EitherOpen, Same, OneSame, Settled}
+use Rattle.corners.specs.Good.{Good, inputOf, cornersOf}
+use Rattle.corners.specs.Tags.{tagsAt}
 
 -- Two lists of points come to the same: test by test, up to the first that applies.
 record Agree (ps qs : List Point) : Type 0 where
@@ -78,23 +52,6 @@ then : {x : End} {t u : Bool} {ps qs : List Point} → t ≡ u → (t ≡ false 
     → Agree (record { applies = t; end = x } ∷ ps) (record { applies = u; end = x } ∷ qs)
 unfolding first
 then {t} e h = record { agrees = by-test t (λ d. rw (← e, d)) (λ d. rw (← e, d) (h d .agrees)) }
-
-otherwise : Option End → Option End → Option End
-otherwise (some e) o = some e
-otherwise none o = o
-
-first-append : (ps qs : List Point) → first (ps ++ qs) ≡ otherwise (first ps) (first qs)
-unfolding first otherwise
-first-append [] qs = refl
-first-append (p ∷ ps) qs = let ih = first-append ps qs in by-test (p .applies) (λ t. rw t) (λ t. rw t ih)
-
-pub first-none-append : (ps qs : List Point) → first (ps ++ qs) ≡ none → first ps ≡ none
-unfolding otherwise
-first-none-append ps qs e = go (first ps) (sym (first-append ps qs) ∙ e)
-  where
-    go : (o : Option End) → otherwise o (first qs) ≡ none → o ≡ none
-    go (some x) d = d
-    go none d = refl
 
 append-agrees : (ps qs : List Point) {rs ts : List Point} → Agree ps qs → (first ps ≡ none → Agree rs ts) → Agree (ps ++ rs) (qs ++ ts)
 unfolding otherwise
@@ -133,15 +90,26 @@ module _ (j : Job) (g : Group) (good : Good j g) where
   value : (r : ℕ) → viewOf j g .lowest (reg r) ≡ cornersOf j g .lowest (reg r)
   value r = lowest-agrees (reg r) (register r)
 
+  operandOpens : (a : Operand) → operandOpen (viewOf j g) a ≡ operandOpen (cornersOf j g) a
+  operandOpens (InRegister r) = openAt r
+  operandOpens (Constant n) = refl
+
+  operandValues : (a : Operand) → operandValue (viewOf j g) a ≡ operandValue (cornersOf j g) a
+  operandValues (InRegister r) = value r
+  operandValues (Constant n) = refl
+
+  both : (a b : Operand) → bothOpen (viewOf j g) a b ≡ bothOpen (cornersOf j g) a b
+  both a b = cc (operandOpens a, operandOpens b)
+
   -- with one operand fixed
-  quotient : (op : Operation) (a b : ℕ)
-      → OneSame (EitherOpen op) (g .box) (λ c. reg a (after j (g .steps) c)) (λ c. reg b (after j (g .steps) c))
-      → let q : State → ℕ = λ s. sortOf op (reg a s) (reg b s) in
-      ltb (viewOf j g .lowest q + 1) (viewOf j g .highest q) ≡ ltb (cornersOf j g .lowest q + 1) (cornersOf j g .highest q)
-  quotient op a b o =
-      let q : State → ℕ = λ s. sortOf op (reg a s) (reg b s) in
-      let n = sort-one-input (g .box) proper (register a) (register b)
-      (λ c m. (good-whole c m .registers .words a, good-whole c m .registers .words b)) op o in
+  quotient : (op : Operation) (a b : Operand) → WordIn a → WordIn b
+      → OneSame (EitherOpen op) (g .box) (λ c. operand a (after j (g .steps) c .registers)) (λ c. operand b (after j (g .steps) c .registers))
+      → farApart (viewOf j g) op a b ≡ farApart (cornersOf j g) op a b
+  quotient op a b wa wb o =
+      let q : State → ℕ = λ s. sortOf op (operand a (s .registers)) (operand b (s .registers)) in
+      let one = operand-one proper good-whole good-uniform in
+      let word = operand-word proper good-whole good-uniform in
+      let n = sort-one-input (g .box) proper (one a) (one b) (λ c m. (word a wa c m, word b wb c m)) op o in
       rw (lowest-agrees q n, highest-agrees q n)
 
   -- with the base fixed
@@ -151,40 +119,58 @@ module _ (j : Job) (g : Group) (good : Good j g) where
       let o : OneInput (g .box) 0 (λ c. offset r imm (after j (g .steps) c)) = one-input-constant (g .box) (λ c d m n. cc (s c d m n)) in
       cc (lowest-agrees (offset r imm) o)
 
-  operation-agrees : (op : Operation) (a b : ℕ) → Agree (operationPoints (viewOf j g) op a b) (operationPoints (cornersOf j g) op a b)
+  operation-agrees : (op : Operation) (a b : Operand) → WordIn a → WordIn b
+      → Agree (operationPoints (viewOf j g) op a b) (operationPoints (cornersOf j g) op a b)
   unfolding operationPoints
-  operation-agrees Add a b = then (cc (openAt a, openAt b)) (λ n. done)
-  operation-agrees Sub a b = then (cc (openAt a, openAt b)) (λ n. done)
-  operation-agrees Mul a b =
-      then (cc (openAt a, openAt b)) (λ n.
-      then (cc (openAt b, value a)) (λ _.
-      then (cc (openAt a, value b)) (λ _.
-      then (quotient Mul a b (not-both j g a b tt n)) (λ _. done))))
-  operation-agrees Divu a b =
-      then (openAt b) (λ _.
-      then (cc (value b)) (λ _.
-      then (cc (openAt a, value b)) (λ _. done)))
-  operation-agrees Remu a b =
-      then (openAt b) (λ n.
-      then (cc (value b)) (λ _.
-      then (quotient Remu a b (inl (closed j g (reg b) n))) (λ _. done)))
-  operation-agrees Sltu a b = then (cc (openAt a, openAt b)) (λ n. done)
+  operation-agrees Add a b wa wb = then (both a b) (λ n. done)
+  operation-agrees Sub a b wa wb = then (both a b) (λ n. done)
+  operation-agrees Mul a b wa wb =
+      then (both a b) (λ n.
+      then (cc (operandOpens b, operandValues a)) (λ _.
+      then (cc (operandOpens a, operandValues b)) (λ _.
+      then (quotient Mul a b wa wb (not-both j g a b tt n)) (λ _. done))))
+  operation-agrees Divu a b wa wb =
+      then (operandOpens b) (λ _.
+      then (cc (operandValues b)) (λ _.
+      then (cc (operandOpens a, operandValues b)) (λ _. done)))
+  operation-agrees Remu a b wa wb =
+      then (operandOpens b) (λ n.
+      then (cc (operandValues b)) (λ _.
+      then (quotient Remu a b wa wb (inl (operand-closed j g b n))) (λ _. done)))
+  operation-agrees Sltu a b wa wb = then (both a b) (λ n. done)
 
-  points-agree : (i : Instruction) → Agree (points (viewOf j g) i) (points (cornersOf j g) i)
-  unfolding points
-  points-agree (Lui rd imm) = done
-  points-agree (Addi rd rs1 imm) = done
-  points-agree (Register op rd rs1 rs2) = by-test (eqb rd 0) (λ t. rw t done) (λ t. rw t (operation-agrees op rs1 rs2))
-  points-agree (Ld rd rs1 imm) = then (openAt rs1) (λ n. then (address rs1 imm (closed j g (reg rs1) n)) (λ _. done))
-  points-agree (Sd rs1 rs2 imm) = then (openAt rs1) (λ n. then (address rs1 imm (closed j g (reg rs1) n)) (λ _. done))
-  points-agree (Beq rs1 rs2 imm) = then (cc (openAt rs1, openAt rs2)) (λ n. done)
-  points-agree (Jal rd imm) = done
-  points-agree (Jalr rd rs1 imm) = then (openAt rs1) (λ n. done)
-  points-agree Ecall =
+  operands-agree : (x : Sorting) → WordsIn x → Agree (operandPoints (viewOf j g) x) (operandPoints (cornersOf j g) x)
+  unfolding operandPoints
+  operands-agree (Operates op a b) (wa, wb) = operation-agrees op a b wa wb
+  operands-agree (Compares a b) w = then (both a b) (λ n. done)
+  operands-agree Nothing w = done
+
+  access-agrees : (r : ℕ) (imm : ℤ)
+      → Agree (addressPoints (viewOf j g) (Ld 0 r imm)) (addressPoints (cornersOf j g) (Ld 0 r imm))
+  unfolding addressPoints
+  access-agrees r imm = then (openAt r) (λ n. then (address r imm (closed j g (reg r) n)) (λ _. done))
+
+  address-agrees : (i : Instruction) → Agree (addressPoints (viewOf j g) i) (addressPoints (cornersOf j g) i)
+  unfolding addressPoints
+  address-agrees (Lui rd imm) = done
+  address-agrees (Addi rd rs1 imm) = done
+  address-agrees (Register op rd rs1 rs2) = done
+  address-agrees (Ld rd rs1 imm) = access-agrees rs1 imm
+  address-agrees (Sd rs1 rs2 imm) = access-agrees rs1 imm
+  address-agrees (Beq rs1 rs2 imm) = done
+  address-agrees (Jal rd imm) = done
+  address-agrees (Jalr rd rs1 imm) = then (openAt rs1) (λ n. done)
+  address-agrees Ecall =
       then (cc (openAt 17, value 17, openAt 10, openAt 11, openAt 12)) (λ _.
       then (cc (value 17, value 10, value 12)) (λ _.
       then (cc (value 17, value 11)) (λ _.
       then (cc (value 17)) (λ _. done))))
+
+  points-agree : (i : Instruction) → Agree (points (viewOf j g) i) (points (cornersOf j g) i)
+  unfolding points
+  points-agree i =
+      append-agrees (addressPoints (viewOf j g) i) (addressPoints (cornersOf j g) i) (address-agrees i)
+      (λ _. operands-agree (sortingOf i) (sorting-words i))
 
   -- the class of an instruction whose operands are settled, and its pieces
   pub class-one : (i : Instruction) → Settled (g .box) (after j (g .steps)) i
@@ -207,4 +193,4 @@ module _ (j : Job) (g : Group) (good : Good j g) where
   -- the corner law of the ending order
   pub end-agrees : endOf j g ≡ endBy j g (cornersOf j g)
   unfolding endBy
-  end-agrees = rw (at-agrees (decodeOf (getD (j .code) (viewOf j g .pc / 4) 0)))
+  end-agrees = rw (at-agrees (fetch (j .code) (viewOf j g .pc)))

@@ -16,13 +16,8 @@ use Rattle.listing.specs.Group.{Job, Group, viewOf}
 use Rattle.listing.specs.Ending.{needs, endOf}
 use Rattle.listing.specs.Listing.{Path, later, pathOf, splitBy, moveBy, moveFrom, moves, begin, enough, listing}
 use Rattle.listing.specs.declared.End.{End}
-use Rattle.corners.proofs.Uniform.{Sound}
-use Rattle.corners.proofs.Corner.{Good}
 use Rattle.corners.proofs.Moves.{Continues, continues, split-mem, partition, moves-each, waiting-good}
-
--- the weight of a list of groups
-unfoldable pub weight : Job → List Group → ℕ
-weight j gs = foldr (λ (g : Group) (n : ℕ). size (g .box) * (j .limit + 1 - g .steps) + n) 0 gs
+use Rattle.corners.specs.Good.{Sound, Good, weight}
 
 weight-append : (j : Job) (gs hs : List Group) → weight j (gs ++ hs) ≡ weight j gs + weight j hs
 unfolding weight

@@ -4,7 +4,7 @@ use mathlib.Core.Path.{_≡_, refl, sym, _∙_}
 use mathlib.Core.Logic.{_⊎_, inl, inr, ⊎-elim}
 use mathlib.Core.Bool.{Bool, true, false, not, _&&_, _||_, true≢false, and-eq-true-iff}
 use mathlib.Core.List.{List, [], _∷_, _++_}
-use mathlib.Core.Option.{none}
+use mathlib.Core.Option.{Option, none, some}
 use Prim.Native.Nat.{ℕ, _%_, _<_}
 use native.Mathlib.Omega.{arith}
 use lib.Dec.{eqb, ltb}
@@ -18,12 +18,16 @@ use Rattle.riscu.specs.declared.Operation.{Operation}
 use Rattle.riscu.specs.declared.Operation.the-variants.{Add, Sub, Mul, Divu, Remu, Sltu}
 use Rattle.riscu.specs.declared.Instruction.{Instruction}
 use Rattle.riscu.specs.declared.Instruction.the-variants.{Lui, Addi, Register, Ld, Sd, Beq, Jal, Jalr, Ecall}
-use Rattle.listing.specs.Group.{Job, Group, after, viewOf}
-use Rattle.listing.specs.Ending.{Point, first, badAddress, divisor, operationPoints, points}
+use Rattle.listing.specs.Group.{Job, Group, after, sortingOf, operand, viewOf}
+use Rattle.listing.specs.Ending.{Point, first, lastAddress, badAddress, operandOpen, operandValue, bothOpen, divisorPoints}
+use Rattle.listing.specs.Ending.{operationPoints, operandPoints, addressPoints, points}
+use Rattle.listing.specs.declared.Operand.{Operand}
+use Rattle.listing.specs.declared.Operand.the-variants.{InRegister, Constant}
+use Rattle.listing.specs.declared.Sorting.{Sorting}
+use Rattle.listing.specs.declared.Sorting.the-variants.{Operates, Compares, Nothing}
 use Rattle.listing.specs.declared.End.{End}
-use Rattle.corners.proofs.Operations.{EitherOpen}
-use Rattle.corners.proofs.Tame.{Same, OneSame}
-use Rattle.corners.proofs.Smooth.{DataAddress, Defined, Completes, Settled}
+use Rattle.corners.specs.Smooth.{EitherOpen, Same, OneSame, DataAddress, Defined, Reaches, Computes, Completes}
+use Rattle.corners.specs.Smooth.{baseOf, BaseSame, OperandsSettled, Settled}
 
 -- tests that fail
 
@@ -37,8 +41,8 @@ or-false false u e = (refl, e)
 
 address-good : (a : ℕ) → badAddress a ≡ false → DataAddress a
 address-good a e =
-    let (p, q) = or-false (not (eqb (a % 8) 0)) (ltb 4088 a) e in
-    (eqb-true (a % 8) 0 (not-false (eqb (a % 8) 0) p), ltb-false 4088 a q)
+    let (p, q) = or-false (not (eqb (a % 8) 0)) (ltb lastAddress a) e in
+    (eqb-true (a % 8) 0 (not-false (eqb (a % 8) 0) p), ltb-false lastAddress a q)
 
 -- the tests of a read that no point ends
 record ReadTests (o₁₇ o₁₀ o₁₁ o₁₂ r z e bad : Bool) : Type 0 where
@@ -66,6 +70,23 @@ pub first-none : (p : Point) (ps : List Point) → first (p ∷ ps) ≡ none →
 unfolding first
 first-none p ps e = by-test (p .applies) (λ t. (cc, cc)) (λ t. (t, rw t at e))
 
+unfoldable pub otherwise : Option End → Option End → Option End
+otherwise (some e) o = some e
+otherwise none o = o
+
+pub first-append : (ps qs : List Point) → first (ps ++ qs) ≡ otherwise (first ps) (first qs)
+unfolding first otherwise
+first-append [] qs = refl
+first-append (p ∷ ps) qs = let ih = first-append ps qs in by-test (p .applies) (λ t. rw t) (λ t. rw t ih)
+
+pub first-none-append : (ps qs : List Point) → first (ps ++ qs) ≡ none → (first ps ≡ none) × (first qs ≡ none)
+unfolding otherwise
+first-none-append ps qs e = go (first ps) (sym (first-append ps qs) ∙ e)
+  where
+    go : (o : Option End) → otherwise o (first qs) ≡ none → (o ≡ none) × (first qs ≡ none)
+    go (some x) d = (d, cc)
+    go none d = (refl, d)
+
 module _ (j : Job) (g : Group) where
   abbrev pub states : Choice → State
   states = after j (g .steps)
@@ -77,24 +98,32 @@ module _ (j : Job) (g : Group) where
       → viewOf j g .lowest f ≡ f (states c)
   lowest-at f e c h = low-is (λ c. f (states c)) (g .box) c h (λ d m. omega (arith, e c d h m))
 
-  pub not-both : {E : Type 0} (a b : ℕ) → E → viewOf j g .isOpen (reg a) && viewOf j g .isOpen (reg b) ≡ false
-      → OneSame E (g .box) (λ c. reg a (states c)) (λ c. reg b (states c))
+  pub operand-closed : (a : Operand) → operandOpen (viewOf j g) a ≡ false → Same (g .box) (λ c. operand a (states c .registers))
+  operand-closed (InRegister r) e = closed (reg r) e
+  operand-closed (Constant n) e = λ c d m n. refl
+
+  pub operand-at : (a : Operand) → operandOpen (viewOf j g) a ≡ false → (c : Choice) → Inside c (g .box)
+      → operandValue (viewOf j g) a ≡ operand a (states c .registers)
+  operand-at (InRegister r) e c m = lowest-at (reg r) (closed (reg r) e) c m
+  operand-at (Constant n) e c m = refl
+
+  pub not-both : {E : Type 0} (a b : Operand) → E → bothOpen (viewOf j g) a b ≡ false
+      → OneSame E (g .box) (λ c. operand a (states c .registers)) (λ c. operand b (states c .registers))
   not-both a b e h =
-      ⊎-elim (λ p. inr (e, closed (reg a) p)) (λ p. inl (closed (reg b) p))
-      (and-false (viewOf j g .isOpen (reg a)) (viewOf j g .isOpen (reg b)) h)
+      ⊎-elim (λ p. inl (operand-closed b p)) (λ p. inr (e, operand-closed a p))
+      (and-false (operandOpen (viewOf j g) b) (operandOpen (viewOf j g) a) h)
 
   -- the divisor is fixed, and not 0 for every choice
-  divisor-followed : (b : ℕ) (ps : List Point) → first (divisor (viewOf j g) b ++ ps) ≡ none
-      → Same (g .box) (λ c. reg b (states c)) × ((c : Choice) → Inside c (g .box) → 0 < reg b (states c))
+  divisor-followed : (b : Operand) (ps : List Point) → first (divisorPoints (viewOf j g) b ++ ps) ≡ none
+      → Same (g .box) (λ c. operand b (states c .registers)) × ((c : Choice) → Inside c (g .box) → 0 < operand b (states c .registers))
   divisor-followed b ps e =
       let (p, d) = first-none _ _ e in
-      let q : ¬ (viewOf j g .lowest (reg b) ≡ 0) = eqb-false _ _ (first-none _ _ d .0) in
-      let s = closed (reg b) p in
-      (s, λ c m. omega (arith, lowest-at (reg b) s c m))
+      let q : ¬ (operandValue (viewOf j g) b ≡ 0) = eqb-false _ _ (first-none _ _ d .0) in
+      (operand-closed b p, λ c m. omega (arith, operand-at b p c m))
 
-  operation-followed : (op : Operation) (a b : ℕ) → first (operationPoints (viewOf j g) op a b) ≡ none
-      → OneSame (EitherOpen op) (g .box) (λ c. reg a (states c)) (λ c. reg b (states c))
-      × ((c : Choice) → Inside c (g .box) → Defined op (reg b (states c)))
+  operation-followed : (op : Operation) (a b : Operand) → first (operationPoints (viewOf j g) op a b) ≡ none
+      → OneSame (EitherOpen op) (g .box) (λ c. operand a (states c .registers)) (λ c. operand b (states c .registers))
+      × ((c : Choice) → Inside c (g .box) → Defined op (operand b (states c .registers)))
   unfolding operationPoints
   operation-followed Add a b e = (not-both a b tt (first-none _ _ e .0), λ c m. tt)
   operation-followed Sub a b e = (not-both a b tt (first-none _ _ e .0), λ c m. tt)
@@ -102,6 +131,13 @@ module _ (j : Job) (g : Group) where
   operation-followed Divu a b e = let (s, d) = divisor-followed b _ e in (inl s, d)
   operation-followed Remu a b e = let (s, d) = divisor-followed b _ e in (inl s, d)
   operation-followed Sltu a b e = (not-both a b tt (first-none _ _ e .0), λ c m. tt)
+
+  operands-followed : (x : Sorting) → first (operandPoints (viewOf j g) x) ≡ none
+      → OperandsSettled (g .box) states x × ((c : Choice) → Inside c (g .box) → Computes x (states c))
+  unfolding operandPoints
+  operands-followed (Operates op a b) e = operation-followed op a b e
+  operands-followed (Compares a b) e = (not-both a b tt (first-none _ _ e .0), λ c m. tt)
+  operands-followed Nothing e = (tt, λ c m. tt)
 
   -- the base is fixed, and the address is good for every choice
   base-followed : (r : ℕ) (imm : ℤ) (x y : End)
@@ -115,9 +151,9 @@ module _ (j : Job) (g : Group) where
       let a = address-good (viewOf j g .lowest (offset r imm)) (first-none _ _ d .0) in
       (s, λ c m. rw (lowest-at (offset r imm) o c m) at a)
 
-  read-followed : first (points (viewOf j g) Ecall) ≡ none
-      → Same (g .box) (λ c. reg 11 (states c)) × ((c : Choice) → Inside c (g .box) → Completes Ecall (states c))
-  unfolding points
+  read-followed : first (addressPoints (viewOf j g) Ecall) ≡ none
+      → Same (g .box) (λ c. reg 11 (states c)) × ((c : Choice) → Inside c (g .box) → Reaches Ecall (states c))
+  unfolding addressPoints
   read-followed e =
       let (h₁, e₁) = first-none _ _ e in
       let (h₂, e₂) = first-none _ _ e₁ in
@@ -139,18 +175,24 @@ module _ (j : Job) (g : Group) where
         ),
       )
 
+  address-followed : (i : Instruction) → first (addressPoints (viewOf j g) i) ≡ none
+      → BaseSame (g .box) states (baseOf i) × ((c : Choice) → Inside c (g .box) → Reaches i (states c))
+  unfolding addressPoints
+  address-followed (Lui rd imm) e = (tt, λ c m. tt)
+  address-followed (Addi rd rs1 imm) e = (tt, λ c m. tt)
+  address-followed (Register op rd rs1 rs2) e = (tt, λ c m. tt)
+  address-followed (Ld rd rs1 imm) e = base-followed rs1 imm _ _ e
+  address-followed (Sd rs1 rs2 imm) e = base-followed rs1 imm _ _ e
+  address-followed (Beq rs1 rs2 imm) e = (tt, λ c m. tt)
+  address-followed (Jal rd imm) e = (tt, λ c m. tt)
+  address-followed (Jalr rd rs1 imm) e = (closed (reg rs1) (first-none _ _ e .0), λ c m. tt)
+  address-followed Ecall e = read-followed e
+
   pub points-followed : (i : Instruction) → first (points (viewOf j g) i) ≡ none
       → Settled (g .box) states i × ((c : Choice) → Inside c (g .box) → Completes i (states c))
   unfolding points
-  points-followed (Lui rd imm) e = (tt, λ c m. tt)
-  points-followed (Addi rd rs1 imm) e = (tt, λ c m. tt)
-  points-followed (Register op rd rs1 rs2) e =
-      by-test (eqb rd 0)
-      (λ t. let z = eqb-true rd 0 t in (inl z, λ c m. inl z))
-      (λ t. let (o, p) = operation-followed op rs1 rs2 (rw t at e) in (inr o, λ c m. inr (p c m)))
-  points-followed (Ld rd rs1 imm) e = base-followed rs1 imm _ _ e
-  points-followed (Sd rs1 rs2 imm) e = base-followed rs1 imm _ _ e
-  points-followed (Beq rs1 rs2 imm) e = (not-both rs1 rs2 tt (first-none _ _ e .0), λ c m. tt)
-  points-followed (Jal rd imm) e = (tt, λ c m. tt)
-  points-followed (Jalr rd rs1 imm) e = (closed (reg rs1) (first-none _ _ e .0), λ c m. tt)
-  points-followed Ecall e = read-followed e
+  points-followed i e =
+      let (d, f) = first-none-append (addressPoints (viewOf j g) i) (operandPoints (viewOf j g) (sortingOf i)) e in
+      let (b, r) = address-followed i d in
+      let (o, k) = operands-followed (sortingOf i) f in
+      ((b, o), λ c m. (r c m, k c m))

@@ -2,23 +2,21 @@
 -- Assumes nothing.
 use mathlib.Core.Path.{_≡_, refl, sym, subst}
 use mathlib.Core.Logic.{⊎-elim}
-use mathlib.Core.Bool.{Bool, true, false, cond, not, _||_}
+use mathlib.Core.Bool.{Bool, true, false, cond}
 use mathlib.Core.List.{List, [], _∷_, _++_, Memᴰ·of-map, List·Memᴰ·append-cases, List·Memᴰ·eq-of-singleton, List·Memᴰ·head as here}
 use mathlib.Core.List.{List·Memᴰ·tail as there, List·Memᴰ·not-nil}
 use mathlib.Core.Option.{Option, none, some}
-use Prim.Native.Nat.{ℕ, zero, suc, _-_, _/_, _%_, _≤_}
+use Prim.Native.Nat.{ℕ, zero, suc, _-_, _≤_}
 use native.Mathlib.Omega.{arith}
 use native.Mathlib.Decide.{decLt}
-use lib.Dec.{eqb, ltb}
-use lib.ListN.{length, getD}
-use borrow.Author.Tests.{eqb-false, ltb-false, not-false}
+use lib.Dec.{eqb}
+use borrow.Author.Tests.{eqb-false, ltb-false}
 use Rattle.boxes.specs.Boxes.{Box, Proper, lows, highs, Within}
 use Rattle.boxes.proofs.Lists.{_∈_}
 use Rattle.boxes.proofs.Choices.{lows-inside, highs-inside, inside-at}
 use Rattle.boxes.proofs.OneInput.{one-input-convex}
 use Rattle.boxes.proofs.Partition.{Partition, pieces-partition}
-use Rattle.riscu.specs.Machine.{fetch}
-use Rattle.riscu.specs.Decode.{decodeOf}
+use Rattle.riscu.specs.Machine.{badPc, fetch}
 use Rattle.riscu.specs.declared.Instruction.{Instruction}
 use Rattle.riscu.specs.declared.Decoded.{Decoded}
 use Rattle.riscu.specs.declared.Decoded.the-variants.{Row, NoRow}
@@ -26,11 +24,11 @@ use Rattle.listing.specs.Group.{Job, Group, after, classOf, View, viewOf}
 use Rattle.listing.specs.Ending.{Point, first, points, needs, endAt, endBy, endOf}
 use Rattle.listing.specs.Listing.{Path, Progress, progress, whole, later, pathOf, splitBy, moveBy, moveFrom, moves, begin}
 use Rattle.listing.specs.declared.End.{End}
-use Rattle.corners.proofs.Tame.{Same}
-use Rattle.corners.proofs.Smooth.{Followed, followed-within, smooth-within}
-use Rattle.corners.proofs.Uniform.{Sound}
-use Rattle.corners.proofs.Followed.{or-false, first-none, points-followed}
-use Rattle.corners.proofs.Corner.{Good, inputOf, first-none-append, good-uniform, class-one}
+use Rattle.corners.proofs.Smooth.{followed-within, smooth-within}
+use Rattle.corners.proofs.Followed.{first-none, first-none-append, points-followed}
+use Rattle.corners.proofs.Corner.{good-uniform, class-one}
+use Rattle.corners.specs.Smooth.{Same, Followed}
+use Rattle.corners.specs.Good.{Sound, Good, inputOf}
 
 -- a group that goes on: it has an instruction, and none of the points 4 to 10 applies
 pub record Continues (j : Job) (g : Group) : Type 0 where
@@ -39,7 +37,7 @@ pub record Continues (j : Job) (g : Group) : Type 0 where
   pub fetched : fetch (j .code) (viewOf j g .pc) ≡ Row instruction
   pub below-limit : ¬ (g .steps ≡ j .limit)
   pub no-point : first (points (viewOf j g) instruction) ≡ none
-  pub room : needs g (viewOf j g) instruction ≤ j .entries - g .used
+  pub entries-fit : needs g (viewOf j g) instruction ≤ j .entries - g .used
 
 -- the last point does not apply
 last-none : (ps : List Point) (p : Point) → first (ps ++ (p ∷ [])) ≡ none → p .applies ≡ false
@@ -51,14 +49,11 @@ cond-none x true o e = (cc, cc)
 cond-none x false o e = (refl, e)
 
 pub continues : (j : Job) (g : Group) → endOf j g ≡ none → Continues j g
-unfolding endBy endAt fetch
+unfolding endBy endAt
 continues j g e =
     let pc = viewOf j g .pc in
     let (p, d) = cond-none _ (eqb (g .steps) (j .limit)) _ e in
-    let (q, r) = cond-none _ (not (eqb (pc % 4) 0) || not (ltb (pc / 4) (length (j .code)))) _ d in
-    let (s, t) = or-false (not (eqb (pc % 4) 0)) (not (ltb (pc / 4) (length (j .code)))) q in
-    go (decodeOf (getD (j .code) (pc / 4) 0)) (rw (not-false (eqb (pc % 4) 0) s, not-false (ltb (pc / 4) (length (j .code))) t))
-    (eqb-false _ _ p) r
+    go (fetch (j .code) pc) refl (eqb-false _ _ p) (cond-none _ (badPc (j .code) pc) _ d .1)
   where
     go : (d : Decoded) → fetch (j .code) (viewOf j g .pc) ≡ d → ¬ (g .steps ≡ j .limit) → endAt j g (viewOf j g) d ≡ none → Continues j g
     go NoRow f l e = let z : _≡_ {A = ℕ} 0 1 = cc in absurd (omega arith)
@@ -68,8 +63,8 @@ continues j g e =
           instruction = i;
           fetched = f;
           below-limit = l;
-          no-point = first-none-append (points (viewOf j g) i) _ d;
-          room = ltb-false _ _ (last-none (points (viewOf j g) i) _ d);
+          no-point = first-none-append (points (viewOf j g) i) _ d .0;
+          entries-fit = ltb-false _ _ (last-none (points (viewOf j g) i) _ d);
         }
 
 pub split-mem : {h : Group} (g : Group) (v : View) (i : Instruction) → h ∈ splitBy g v (Row i)

@@ -13,7 +13,7 @@ use Rattle.boxes.proofs.Lists.{by-test}
 use Rattle.riscu.specs.declared.Instruction.{Instruction}
 use Rattle.listing.specs.Group.{Job, Group, classOf, after}
 use Rattle.listing.specs.Ending.{writes, needs}
-use Rattle.corners.proofs.Corner.{lowState, highState, inputOf, cornersOf}
+use Rattle.corners.specs.Good.{lowState, highState, inputOf, cornersOf}
 
 some-piece : (n : ℕ) (k : Choice → ℕ) (x : ℕ) (b : Box) → 0 < length (cornerPieces n k x b)
 unfolding cornerPieces

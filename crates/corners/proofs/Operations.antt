@@ -15,6 +15,7 @@ use Rattle.riscu.specs.Machine.{operate}
 use Rattle.riscu.specs.declared.Operation.{Operation}
 use Rattle.riscu.specs.declared.Operation.the-variants.{Add, Sub, Mul, Divu, Remu, Sltu}
 use Rattle.listing.specs.Group.{sortOf, comparison}
+use Rattle.corners.specs.Smooth.{EitherOpen}
 
 -- f goes one way in its first argument, the second held fixed, at the arguments that S relates
 abbrev pub Monotone : (ℕ → ℕ → ℕ → Type 0) → (ℕ → ℕ → ℕ) → Type 0
@@ -112,15 +113,6 @@ open-first Mul = by-quotient (λ x v. x * v) (λ v x y h. mul-le-mul-right v h) 
 open-first Divu = by-nothing (λ x v. x / v) (λ v x y h. div-rises v h)
 open-first Remu = by-quotient (λ x v. x) (omega arith) (λ v. v)
 open-first Sltu = by-itself less less-falls
-
--- the operations whose second operand may be the open one: a divisor may not
-abbrev pub EitherOpen : Operation → Type 0
-EitherOpen Add = Unit {0}
-EitherOpen Sub = Unit {0}
-EitherOpen Mul = Unit {0}
-EitherOpen Divu = ⊥
-EitherOpen Remu = ⊥
-EitherOpen Sltu = Unit {0}
 
 pub open-second : (op : Operation) → EitherOpen op → Sorts (flip (sortOf op)) (flip (operate op))
 unfolding sortOf operate

@@ -17,21 +17,14 @@ use Rattle.riscu.specs.Word.{size}
 use Rattle.riscu.specs.Machine.{operate}
 use Rattle.riscu.specs.declared.Operation.{Operation}
 use Rattle.listing.specs.Group.{sortOf, comparison}
-use Rattle.corners.proofs.Operations.{Monotone, Words, flip, EitherOpen, open-first, open-second, comparison-rises, comparison-falls}
-
--- every choice of the box gives the same
-abbrev pub Same : {A : Type 0} → Box → (Choice → A) → Type 0
-Same b f = (c d : Choice) → Inside c b → Inside d b → f c ≡ f d
+use Rattle.corners.proofs.Operations.{Monotone, Words, flip, open-first, open-second, comparison-rises, comparison-falls}
+use Rattle.corners.specs.Smooth.{EitherOpen, Same, OneSame}
 
 pub same-within : {A : Type 0} {f : Choice → A} (a b : Box) → Within a b → Same b f → Same a f
 same-within a b w h c d m n = h c d (w c m) (w d n)
 
 pub one-input-cong : {f g : Choice → ℕ} {i : ℕ} (b : Box) → ((c : Choice) → Inside c b → f c ≡ g c) → OneInput b i f → OneInput b i g
 one-input-cong b h = one-input-rise b (λ c d m n l. omega (arith, h c m, h d n))
-
--- the second operand is the same for every choice, or the first is, where the operation allows it
-abbrev pub OneSame : Type 0 → Box → (Choice → ℕ) → (Choice → ℕ) → Type 0
-OneSame E b f g = Same b g ⊎ (E × Same b f)
 
 -- the tag of a result, the operands' tags being i and j: that of the second where the first is the same at both corners
 abbrev pub tagOf : Box → (Choice → ℕ) → ℕ → ℕ → ℕ

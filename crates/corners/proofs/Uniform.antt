@@ -2,74 +2,39 @@
 -- one input that its tag names, at most.
 -- Assumes nothing.
 use mathlib.Core.Path.{_≡_, refl, sym, _∙_}
-use mathlib.Core.Logic.{_⊎_, inl, inr, ⊎-elim}
+use mathlib.Core.Logic.{inl}
 use mathlib.Core.Bool.{Bool, true, false, cond, _&&_}
 use mathlib.Core.List.{List}
-use Prim.Native.Nat.{ℕ, zero, suc, _/_, _≤_, _<_}
+use Prim.Native.Nat.{ℕ, zero, suc, _/_, _<_}
 use native.Mathlib.Omega.{arith}
 use lib.Dec.{eqb, ltb}
-use lib.ListN.{length, getD, set, replicate, length-set, length-replicate}
-use borrow.Author.Tests.{eqb-false}
+use lib.ListN.{length, getD, set, length-set, length-replicate}
 use Rattle.boxes.specs.Boxes.{Choice, Box, Proper, lows, highs, Inside}
 use Rattle.boxes.specs.Cuts.{OneInput}
 use Rattle.boxes.proofs.Lists.{by-test}
 use Rattle.boxes.proofs.Places.{getD-set}
 use Rattle.boxes.proofs.Choices.{lows-inside, inside-at, inside-length}
 use Rattle.boxes.proofs.OneInput.{one-input-constant}
-use Rattle.riscu.specs.Word.{size}
+use Rattle.riscu.specs.Word.{size, widen}
 use Rattle.riscu.specs.Machine.{State, reg, putIn, put, next, following, operate, offset, fetch, step, readInput, readNext, stepDecoded}
 use Rattle.riscu.specs.Machine.{run}
 use Rattle.riscu.specs.declared.Operation.{Operation}
 use Rattle.riscu.specs.declared.Operation.the-variants.{Add}
 use Rattle.riscu.specs.declared.Instruction.{Instruction}
 use Rattle.riscu.specs.declared.Instruction.the-variants.{Lui, Addi, Register, Ld, Sd, Beq, Jal, Jalr, Ecall}
-use Rattle.riscu.specs.declared.Decoded.{Decoded}
-use Rattle.riscu.specs.declared.Decoded.the-variants.{Row, NoRow}
-use Rattle.riscu.proofs.Whole.{Cells, AllWords, Whole, widen-word, start-whole, run-whole}
-use Rattle.listing.specs.Group.{Job, after, sortOf, classOf}
-use Rattle.corners.proofs.Operations.{EitherOpen, comparison-equal}
-use Rattle.corners.proofs.Tame.{Same, OneSame, tagOf, one-input-cong, sort-one-input, comparison-one-input, result-one-input}
-use Rattle.corners.proofs.Smooth.{Settled, Smooth}
-
--- The tags of a group: the input that each register and each memory word hangs on. They move as the values do.
-
-pub record Tags : Type 0 where
-  pub registers : List ℕ
-  pub memory : List ℕ
-
-abbrev toRegister : ℕ → ℕ → Tags → Tags
-toRegister r i t = record { registers = putIn r i (t .registers); memory = t .memory }
-
-abbrev toMemory : ℕ → ℕ → Tags → Tags
-toMemory k i t = record { registers = t .registers; memory = set (t .memory) k i }
-
--- the input that the open one of two operands hangs on, from the states at the low and the high corner
-abbrev pub operandTag : ℕ → ℕ → State → State → Tags → ℕ
-operandTag a b l h t = cond (eqb (reg a l) (reg a h)) (getD (t .registers) b 0) (getD (t .registers) a 0)
-
--- the tags after an instruction, from the states at the low and the high corner
-unfoldable pub tagStep : Choice → Instruction → State → State → Tags → Tags
-tagStep c (Lui rd imm) l h t = toRegister rd 0 t
-tagStep c (Addi rd rs1 imm) l h t = toRegister rd (getD (t .registers) rs1 0) t
-tagStep c (Register op rd rs1 rs2) l h t = toRegister rd (operandTag rs1 rs2 l h t) t
-tagStep c (Ld rd rs1 imm) l h t = toRegister rd (getD (t .memory) (offset rs1 imm l / 8) 0) t
-tagStep c (Sd rs1 rs2 imm) l h t = toMemory (offset rs1 imm l / 8) (getD (t .registers) rs2 0) t
-tagStep c (Beq rs1 rs2 imm) l h t = t
-tagStep c (Jal rd imm) l h t = toRegister rd 0 t
-tagStep c (Jalr rd rs1 imm) l h t = toRegister rd 0 t
-tagStep c Ecall l h t = toRegister 10 0 (cond (ltb (l .reads) (length c)) (toMemory (reg 11 l / 8) (l .reads) t) t)
-
--- the input that an instruction's class hangs on
-unfoldable pub classTag : Instruction → State → State → Tags → ℕ
-classTag (Lui rd imm) l h t = 0
-classTag (Addi rd rs1 imm) l h t = getD (t .registers) rs1 0
-classTag (Register op rd rs1 rs2) l h t = operandTag rs1 rs2 l h t
-classTag (Ld rd rs1 imm) l h t = 0
-classTag (Sd rs1 rs2 imm) l h t = 0
-classTag (Beq rs1 rs2 imm) l h t = operandTag rs1 rs2 l h t
-classTag (Jal rd imm) l h t = 0
-classTag (Jalr rd rs1 imm) l h t = 0
-classTag Ecall l h t = 0
+use Rattle.riscu.specs.declared.Decoded.the-variants.{Row}
+use Rattle.riscu.proofs.Whole.{widen-word, start-whole, run-whole}
+use Rattle.listing.specs.Group.{Job, after, sortingOf, operand, classBy, classOf}
+use Rattle.listing.specs.declared.Operand.{Operand}
+use Rattle.listing.specs.declared.Operand.the-variants.{InRegister, Constant}
+use Rattle.listing.specs.declared.Sorting.{Sorting}
+use Rattle.listing.specs.declared.Sorting.the-variants.{Operates, Compares, Nothing}
+use Rattle.corners.proofs.Operations.{comparison-equal}
+use Rattle.corners.proofs.Tame.{tagOf, one-input-cong, sort-one-input, comparison-one-input, result-one-input}
+use Rattle.riscu.specs.Whole.{Whole}
+use Rattle.corners.specs.Smooth.{Same, OperandsSettled, Settled, Smooth}
+use Rattle.corners.specs.Tags.{Tags, toRegister, tagIn, tagStep, tagBy, classTag, tagDecoded, tagsAt}
+use Rattle.corners.specs.Good.{Sound}
 
 -- each element hangs on the input that its tag names, at most
 pub record Elements (n : ℕ) (b : Box) (ts : List ℕ) (l : Choice → List ℕ) : Type 0 where
@@ -81,6 +46,28 @@ pub record Uniform (b : Box) (s : Choice → State) (t : Tags) : Type 0 where
   pub reads : Same b (λ c. s c .reads)
   pub registers : Elements 32 b (t .registers) (λ c. s c .registers)
   pub memory : Elements 512 b (t .memory) (λ c. s c .memory)
+
+-- the constants that an instruction sorts by are words
+abbrev pub WordIn : Operand → Type 0
+WordIn (InRegister r) = Unit {0}
+WordIn (Constant n) = n < size
+
+abbrev pub WordsIn : Sorting → Type 0
+WordsIn (Operates op x y) = WordIn x × WordIn y
+WordsIn (Compares x y) = WordIn x × WordIn y
+WordsIn Nothing = Unit {0}
+
+pub sorting-words : (i : Instruction) → WordsIn (sortingOf i)
+unfolding sortingOf
+sorting-words (Lui rd imm) = tt
+sorting-words (Addi rd rs1 imm) = by-test (eqb rd 0) (λ z. rw z tt) (λ z. rw z (tt, widen-word imm))
+sorting-words (Register op rd rs1 rs2) = by-test (eqb rd 0) (λ z. rw z tt) (λ z. rw z (tt, tt))
+sorting-words (Ld rd rs1 imm) = tt
+sorting-words (Sd rs1 rs2 imm) = tt
+sorting-words (Beq rs1 rs2 imm) = (tt, tt)
+sorting-words (Jal rd imm) = tt
+sorting-words (Jalr rd rs1 imm) = tt
+sorting-words Ecall = tt
 
 either : {b : Box} {f g : Choice → ℕ} {i j : ℕ} (t : Bool) → OneInput b i f → OneInput b j g
     → OneInput b (cond t i j) (λ c. cond t (f c) (g c))
@@ -141,36 +128,45 @@ module _ {b : Box} (proper : Proper b) {s : Choice → State} {t : Tags} (whole 
   constant : {v : Choice → ℕ} → Same b v → OneInput b 0 v
   constant = one-input-constant b
 
+  -- an operand hangs on the input that its tag names, and is a word
+  pub operand-one : (x : Operand) → OneInput b (tagIn x (t .registers)) (λ c. operand x (s c .registers))
+  operand-one (InRegister r) = u .registers .one r
+  operand-one (Constant n) = constant (λ c d m n. refl)
+
+  pub operand-word : (x : Operand) → WordIn x → (c : Choice) → Inside c b → operand x (s c .registers) < size
+  operand-word (InRegister r) w c h = whole c h .registers .words r
+  operand-word (Constant n) w c h = w
+
   -- an operation into a register; register 0 takes none
-  operated : (op : Operation) (rd r : ℕ) {g : Choice → ℕ} {j : ℕ} → OneInput b j g → ((c : Choice) → Inside c b → g c < size)
-      → (rd ≡ 0) ⊎ OneSame (EitherOpen op) b (λ c. reg r (s c)) g → Same b (λ c. cond (eqb rd 0) 0 (sortOf op (reg r (s c)) (g c)))
-      → Uniform b (λ c. next (s c) (put rd (operate op (reg r (s c)) (g c)) (s c)) (s c .memory))
-      (toRegister rd (tagOf b (λ c. reg r (s c)) (getD (t .registers) r 0) j) t)
-  operated op rd r second words o e =
+  operated : (op : Operation) (rd : ℕ) (x y : Operand) {j : ℕ} → OneInput b j (λ c. operand y (s c .registers)) → WordIn x → WordIn y
+      → OperandsSettled b s (cond (eqb rd 0) Nothing (Operates op x y))
+      → Same b (λ c. classBy (cond (eqb rd 0) Nothing (Operates op x y)) (s c .registers))
+      → Uniform b (λ c. next (s c) (put rd (operate op (operand x (s c .registers)) (operand y (s c .registers))) (s c)) (s c .memory))
+      (toRegister rd (tagOf b (λ c. operand x (s c .registers)) (tagIn x (t .registers)) j) t)
+  unfolding classBy
+  operated op rd x y second p q o e =
       by-test (eqb rd 0)
       (λ z. rw z (record { pc = next-pc; reads = u .reads; registers = u .registers; memory = u .memory }))
-      (λ z.
-      let o′ = ⊎-elim (λ y. absurd (eqb-false rd 0 z y)) (λ x. x) o in
-      put-uniform rd (result-one-input b proper (u .registers .one r) second (λ c h. (whole c h .registers .words r, words c h)) op o′
-      (rw z at e)) next-pc)
+      (λ z. put-uniform rd (result-one-input b proper (operand-one x) second (λ c m. (operand-word x p c m, operand-word y q c m)) op
+      (rw z at o) (rw z at e)) next-pc)
 
   pub step-uniform : (i : Instruction) → Settled b s i → Same b (λ c. classOf i (s c))
       → Uniform b (λ c. step c i (s c)) (tagStep (lows b) i (s (lows b)) (s (highs b)) t)
-  unfolding step readNext tagStep classOf operate
+  unfolding step readNext tagStep sortingOf classBy classOf operate
   step-uniform (Lui rd imm) h e = put-uniform rd (constant (λ c d m n. refl)) next-pc
   step-uniform (Addi rd rs1 imm) h e =
       rw (← cond-same (eqb (reg rs1 (s (lows b))) (reg rs1 (s (highs b)))) (getD (t .registers) rs1 0))
-      (operated Add rd rs1 (one-input-constant b (λ c d m n. refl)) (λ c h. widen-word imm) (inr (inl (λ c d m n. refl))) e)
-  step-uniform (Register op rd rs1 rs2) h e = operated op rd rs1 (u .registers .one rs2) (λ c h. whole c h .registers .words rs2) h e
+      (operated Add rd (InRegister rs1) (Constant (widen imm)) (one-input-constant b (λ c d m n. refl)) tt (widen-word imm) (h .1) e)
+  step-uniform (Register op rd rs1 rs2) h e = operated op rd (InRegister rs1) (InRegister rs2) (u .registers .one rs2) tt tt (h .1) e
   step-uniform (Ld rd rs1 imm) h e =
-      let k : Same b (λ c. offset rs1 imm (s c) / 8) = λ c d m n. cc (h c d m n) in
+      let k : Same b (λ c. offset rs1 imm (s c) / 8) = λ c d m n. cc (h .0 c d m n) in
       put-uniform rd (one-input-cong b (λ c m. cc (at-low k c m)) (u .memory .one (offset rs1 imm (s (lows b)) / 8))) next-pc
   step-uniform (Sd rs1 rs2 imm) h e =
       record {
         pc = next-pc;
         reads = u .reads;
         registers = u .registers;
-        memory = stored (λ c d m n. cc (h c d m n)) (u .registers .one rs2);
+        memory = stored (λ c d m n. cc (h .0 c d m n)) (u .registers .one rs2);
       }
   step-uniform (Beq rs1 rs2 imm) h e =
       record {
@@ -186,7 +182,7 @@ module _ {b : Box} (proper : Proper b) {s : Choice → State} {t : Tags} (whole 
         memory = u .memory;
       }
   step-uniform (Jal rd imm) h e = put-uniform rd (constant next-pc) (λ c d m n. cc (u .pc c d m n))
-  step-uniform (Jalr rd rs1 imm) h e = put-uniform rd (constant next-pc) (λ c d m n. cc (h c d m n))
+  step-uniform (Jalr rd rs1 imm) h e = put-uniform rd (constant next-pc) (λ c d m n. cc (h .0 c d m n))
   step-uniform Ecall h e =
       let left : (c : Choice) → Inside c b → ltb (s c .reads) (length c) ≡ ltb (s (lows b) .reads) (length (lows b)) =
       λ c m. cc (at-low (u .reads) c m, inside-length b c m, inside-length b (lows b) (lows-inside b proper)) in
@@ -195,57 +191,26 @@ module _ {b : Box} (proper : Proper b) {s : Choice → State} {t : Tags} (whole 
         pc = next-pc;
         reads = λ c d m n. cc (u .reads c d m n);
         registers = written 10 {v = λ c. 8} (constant (λ c d m n. refl));
-        memory = stored {k = λ c. reg 11 (s c) / 8} (λ c d m n. cc (h c d m n))
+        memory = stored {k = λ c. reg 11 (s c) / 8} (λ c d m n. cc (h .0 c d m n))
             (one-input-cong b (λ c m. cc (at-low (u .reads) c m)) (inl (λ c d m n l. l)));
       })))
       (λ z. rw z (uniform-cong {s = λ c. next (s c) (put 10 0 (s c)) (s c .memory)} (λ c m. rw (left c m ∙ z))
       (put-uniform 10 {v = λ c. 0} (constant (λ c d m n. refl)) next-pc)))
 
-  -- the class of two operands, of which one is the same
-  sorted : (op : Operation) (rd r : ℕ) {g : Choice → ℕ} {j : ℕ} → OneInput b j g → ((c : Choice) → Inside c b → g c < size)
-      → (rd ≡ 0) ⊎ OneSame (EitherOpen op) b (λ c. reg r (s c)) g
-      → OneInput b (tagOf b (λ c. reg r (s c)) (getD (t .registers) r 0) j) (λ c. cond (eqb rd 0) 0 (sortOf op (reg r (s c)) (g c)))
-  sorted op rd r second words o =
-      by-test (eqb rd 0)
-      (λ z. rw z (one-input-constant b (λ c d m n. refl)))
-      (λ z. rw z (sort-one-input b proper (u .registers .one r) second (λ c h. (whole c h .registers .words r, words c h)) op
-      (⊎-elim (λ y. absurd (eqb-false rd 0 z y)) (λ x. x) o)))
+  class-by : (x : Sorting) → WordsIn x → OperandsSettled b s x
+      → OneInput b (tagBy x (s (lows b) .registers) (s (highs b) .registers) (t .registers)) (λ c. classBy x (s c .registers))
+  unfolding tagBy classBy
+  class-by (Operates op x y) (p, q) h =
+      sort-one-input b proper (operand-one x) (operand-one y) (λ c m. (operand-word x p c m, operand-word y q c m)) op h
+  class-by (Compares x y) (p, q) h =
+      comparison-one-input b proper (operand-one x) (operand-one y) (λ c m. (operand-word x p c m, operand-word y q c m)) h
+  class-by Nothing w h = constant (λ c d m n. refl)
 
   pub class-uniform : (i : Instruction) → Settled b s i → OneInput b (classTag i (s (lows b)) (s (highs b)) t) (λ c. classOf i (s c))
   unfolding classTag classOf
-  class-uniform (Lui rd imm) h = constant (λ c d m n. refl)
-  class-uniform (Addi rd rs1 imm) h =
-      rw (← cond-same (eqb (reg rs1 (s (lows b))) (reg rs1 (s (highs b)))) (getD (t .registers) rs1 0))
-      (sorted Add rd rs1 (one-input-constant b (λ c d m n. refl)) (λ c h. widen-word imm) (inr (inl (λ c d m n. refl))))
-  class-uniform (Register op rd rs1 rs2) h = sorted op rd rs1 (u .registers .one rs2) (λ c h. whole c h .registers .words rs2) h
-  class-uniform (Ld rd rs1 imm) h = constant (λ c d m n. refl)
-  class-uniform (Sd rs1 rs2 imm) h = constant (λ c d m n. refl)
-  class-uniform (Beq rs1 rs2 imm) h =
-      comparison-one-input b proper (u .registers .one rs1) (u .registers .one rs2)
-      (λ c m. (whole c m .registers .words rs1, whole c m .registers .words rs2)) h
-  class-uniform (Jal rd imm) h = constant (λ c d m n. refl)
-  class-uniform (Jalr rd rs1 imm) h = constant (λ c d m n. refl)
-  class-uniform Ecall h = constant (λ c d m n. refl)
+  class-uniform i h = class-by (sortingOf i) (sorting-words i) (h .1)
 
 -- Runs.
-
--- what an accepted call lends, and a box of it
-pub record Sound (j : Job) (b : Box) : Type 0 where
-  pub code : length (j .code) ≤ 1024
-  pub memory : Cells 512 (j .memory)
-  pub proper : Proper b
-  pub inputs : AllWords (highs b)
-
-unfoldable pub tagDecoded : Choice → Decoded → State → State → Tags → Tags
-tagDecoded c (Row i) l h t = tagStep c i l h t
-tagDecoded c NoRow l h t = t
-
--- the tags after n steps, as a run of the two corners finds them
-unfoldable pub tagsAt : Job → Box → ℕ → Tags
-tagsAt j b zero = record { registers = replicate 32 0; memory = replicate 512 0 }
-tagsAt j b (suc n) =
-    let l = after j n (lows b) in
-    tagDecoded (lows b) (fetch (j .code) (l .pc)) l (after j n (highs b)) (tagsAt j b n)
 
 module _ (j : Job) (b : Box) (sound : Sound j b) where
   pub whole-after : (n : ℕ) (c : Choice) → Inside c b → Whole (after j n c)

@@ -7,12 +7,12 @@ use Rattle.boxes.specs.Boxes.{at, lows, highs}
 use Rattle.boxes.specs.Cuts.{below, boxIn}
 use Rattle.riscu.specs.declared.Instruction.{Instruction}
 use Rattle.listing.specs.Group.{Job, Group, after, classOf}
-use Rattle.corners.proofs.Corner.{lowState}
 use Rattle.forks.specs.Turn.{classAt, EdgeAt, Cuttable}
 use Rattle.forks.specs.Table.{groupIn}
 use Rattle.boxes.proofs.TwoLists.{lows-in, highs-in, below-in}
 use Rattle.cuts.specs.Cutting.{probed, Starts, Turning}
 use Rattle.cuts.specs.Forking.{Parted}
+use Rattle.corners.specs.Good.{lowState}
 
 module _ (j : Job) (g : Group) (i : Instruction) (x : ℕ) where
   -- the class along input x by probes, and that of the low corner

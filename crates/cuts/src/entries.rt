@@ -1,11 +1,24 @@
-// The table of forks: 8 words an entry, the latest fork last.
+// The table of forks, an entry each, the latest fork last.
+use calls::questions::ENTRY_WORDS;
 ghost use mathlib.Core.Path.{_≡_};
-ghost use mathlib.Core.List.{_∷_};
-ghost use Prim.Native.Nat.{suc, _+_, _*_, _≤_, _<_};
+ghost use Prim.Native.Nat.{_+_, _<_};
 ghost use lib.ListN.{length, replicate};
-ghost use Rattle.forks.specs.Stack.{restAt, spend};
-ghost use Rattle.forks.specs.Table.{forkIn, forksIn};
+ghost use Rattle.forks.specs.Stack.{withRest, spend};
+ghost use Rattle.forks.specs.Table.{forkIn, HasEntry, OnTop};
 ghost use Rattle.cuts.specs.Entries.{forkOf, forkHeld};
+
+// Where the words of an entry stand, the input first.
+const LOW: usize = 1;
+
+const HIGH: usize = 2;
+
+const REST: usize = 3;
+
+const STEPS: usize = 4;
+
+const USED: usize = 5;
+
+const SPENT: usize = 6;
 
 // A fork as the table holds it.
 pub struct Entry {
@@ -19,7 +32,7 @@ pub struct Entry {
 }
 
 // One more fork on n.
-pub fn push(
+fn push(
     table: &mut [u64],
     n: usize,
     input: usize,
@@ -29,17 +42,17 @@ pub fn push(
     steps: usize,
     used: usize,
 )
-    requires { ⌜ 8 * n + 8 ≤ length (now table) ⌝ }
-    ensures { λ _. ⌜ forksIn (now (table .exit)) (suc n) ≡ forkOf input low high rest steps used ∷ forksIn (now (table .entry)) n ⌝ }
+    requires { ⌜ HasEntry (now table) n ⌝ }
+    ensures { λ _. ⌜ OnTop (forkOf input low high rest steps used) (now (table .entry)) n (now (table .exit)) ⌝ }
 {
-    let k = 8 * n;
+    let k = ENTRY_WORDS * n;
     table[k] = input as u64;
-    table[k + 1] = low;
-    table[k + 2] = high;
-    table[k + 3] = rest;
-    table[k + 4] = steps as u64;
-    table[k + 5] = used as u64;
-    table[k + 6] = 0;
+    table[k + LOW] = low;
+    table[k + HIGH] = high;
+    table[k + REST] = rest;
+    table[k + STEPS] = steps as u64;
+    table[k + USED] = used as u64;
+    table[k + SPENT] = 0;
 }
 
 // The fork at an edge: its rest begins above it.
@@ -53,52 +66,52 @@ pub fn note(
     steps: usize,
     used: usize,
 )
-    requires { ⌜ (8 * n + 8 ≤ length (now table)) × (edge < high) ⌝ }
-    ensures { λ _. ⌜ forksIn (now (table .exit)) (suc n) ≡ forkOf input low high (edge + 1) steps used ∷ forksIn (now (table .entry)) n ⌝ }
+    requires { ⌜ HasEntry (now table) n × (edge < high) ⌝ }
+    ensures { λ _. ⌜ OnTop (forkOf input low high (edge + 1) steps used) (now (table .entry)) n (now (table .exit)) ⌝ }
 {
     push(table, n, input, low, high, edge + 1, steps, used);
 }
 
 // The entry of fork n.
 pub fn top(table: &[u64], n: usize) -> Entry
-    requires { ⌜ 8 * n + 8 ≤ length (now table) ⌝ }
+    requires { ⌜ HasEntry (now table) n ⌝ }
     ensures { λ r. ⌜ forkHeld r ≡ forkIn (now (table .entry)) n ⌝ }
 {
-    let k = 8 * n;
+    let k = ENTRY_WORDS * n;
     Entry {
         input: table[k] as usize,
-        low: table[k + 1],
-        high: table[k + 2],
-        rest: table[k + 3],
-        steps: table[k + 4] as usize,
-        used: table[k + 5] as usize,
-        spent: table[k + 6] != 0,
+        low: table[k + LOW],
+        high: table[k + HIGH],
+        rest: table[k + REST],
+        steps: table[k + STEPS] as usize,
+        used: table[k + USED] as usize,
+        spent: table[k + SPENT] != 0,
     }
 }
 
 // Another rest of the latest fork.
-pub fn shorten(table: &mut [u64], n: usize, rest: u64)
-    requires { ⌜ 8 * n + 8 ≤ length (now table) ⌝ }
-    ensures { λ _. ⌜ forksIn (now (table .exit)) (suc n) ≡ restAt (forkIn (now (table .entry)) n) rest (forkIn (now (table .entry)) n .spent) ∷ forksIn (now (table .entry)) n ⌝ }
+fn shorten(table: &mut [u64], n: usize, rest: u64)
+    requires { ⌜ HasEntry (now table) n ⌝ }
+    ensures { λ _. ⌜ OnTop (withRest (forkIn (now (table .entry)) n) rest) (now (table .entry)) n (now (table .exit)) ⌝ }
 {
-    let k = 8 * n + 3;
+    let k = ENTRY_WORDS * n + REST;
     table[k] = rest;
 }
 
 // Its rest begins above an edge.
 pub fn rise(table: &mut [u64], n: usize, edge: u64, high: u64)
-    requires { ⌜ (8 * n + 8 ≤ length (now table)) × (edge < high) ⌝ }
-    ensures { λ _. ⌜ forksIn (now (table .exit)) (suc n) ≡ restAt (forkIn (now (table .entry)) n) (edge + 1) (forkIn (now (table .entry)) n .spent) ∷ forksIn (now (table .entry)) n ⌝ }
+    requires { ⌜ HasEntry (now table) n × (edge < high) ⌝ }
+    ensures { λ _. ⌜ OnTop (withRest (forkIn (now (table .entry)) n) (edge + 1)) (now (table .entry)) n (now (table .exit)) ⌝ }
 {
     shorten(table, n, edge + 1);
 }
 
 // Nothing left of the latest fork.
 pub fn spend(table: &mut [u64], n: usize)
-    requires { ⌜ 8 * n + 8 ≤ length (now table) ⌝ }
-    ensures { λ _. ⌜ forksIn (now (table .exit)) (suc n) ≡ spend (forkIn (now (table .entry)) n) ∷ forksIn (now (table .entry)) n ⌝ }
+    requires { ⌜ HasEntry (now table) n ⌝ }
+    ensures { λ _. ⌜ OnTop (spend (forkIn (now (table .entry)) n)) (now (table .entry)) n (now (table .exit)) ⌝ }
 {
-    let k = 8 * n + 6;
+    let k = ENTRY_WORDS * n + SPENT;
     table[k] = 1;
 }
 

@@ -1,42 +1,36 @@
-// A fork of the current group, and of what is left of the latest one.
-use crate::entries::note;
-use crate::entries::rise;
+// A box in two lists: cut along an input, and with another interval for an input.
 use crate::probes::cut;
 use riscu::Instruction;
 use riscu::plain::Memory;
 use riscu::plain::Registers;
 ghost use mathlib.Core.Path.{_≡_};
-ghost use mathlib.Core.List.{_∷_};
-ghost use Prim.Native.Nat.{suc, _+_, _*_, _≤_, _<_};
-ghost use lib.ListN.{length, getD};
+ghost use Prim.Native.Nat.{_<_};
+ghost use lib.ListN.{length};
 ghost use Rattle.boxes.specs.Boxes.{_⋯_};
 ghost use Rattle.boxes.specs.Cuts.{cut, boxIn};
-ghost use Rattle.forks.specs.Stack.{forkAt, restAt};
-ghost use Rattle.forks.specs.Table.{forkIn, forksIn, groupIn};
-ghost use Rattle.cuts.specs.Cutting.{probed, Starts};
-ghost use Rattle.cuts.specs.Forking.{Parted};
+ghost use Rattle.cuts.specs.Cutting.{probed};
+ghost use Rattle.cuts.specs.Forking.{Partable, Parted};
 
-// Cuts the current group along an input, pushes the fork and goes on below the cut.
-pub fn split(
+// Cuts the box along an input, where the class at an instruction is left on the way up: the lists hold the part below then, and the
+// answer is where it ends. Registers and scratch are lent to run in, and what is left in them is free.
+pub fn part(
     code: &[u32],
     memory: &Memory,
     registers: &mut Registers,
-    cells: &mut Memory,
+    scratch: &mut Memory,
     lows: &mut [u64],
     highs: &mut [u64],
-    table: &mut [u64],
-    count: usize,
     input: usize,
     class: u64,
     hint: u64,
     steps: usize,
-    used: usize,
     i: Instruction,
 ) -> u64
-    requires { ⌜ (length (now lows) ≡ length (now highs)) × (input < length (now lows)) × (8 * count + 8 ≤ length (now table)) ⌝ }
-    requires { ⌜ Starts (probed (now code) (now memory) steps i (now lows) input) class (getD (now lows) input 0) (getD (now highs) input 0) ⌝ }
-    ensures { λ r. ⌜ Parted (probed (now (code .entry)) (now (memory .entry)) steps i (now (lows .entry)) input) class input (now (lows .entry)) (now (highs .entry)) (now (lows .exit)) (now (highs .exit)) r ⌝ }
-    ensures { λ r. ⌜ forksIn (now (table .exit)) (suc count) ≡ forkAt (groupIn (now (lows .entry)) (now (highs .entry)) steps used) input r ∷ forksIn (now (table .entry)) count ⌝ }
+    requires { let f = probed (now code) (now memory) steps i (now lows) input in
+        ⌜ Partable f class input (now lows) (now highs) ⌝ }
+    ensures { λ r.
+        let f = probed (now (code .entry)) (now (memory .entry)) steps i (now (lows .entry)) input in
+        ⌜ Parted f class input (now (lows .entry)) (now (highs .entry)) (now (lows .exit)) (now (highs .exit)) r ⌝ }
 {
     let lo = lows[input];
     let hi = highs[input];
@@ -44,7 +38,7 @@ pub fn split(
         code,
         memory,
         registers,
-        cells,
+        scratch,
         lows,
         input,
         lo,
@@ -54,49 +48,6 @@ pub fn split(
         steps,
         i,
     );
-    note(table, count, input, lo, hi, m, steps, used);
-    highs[input] = m;
-    m
-}
-
-// Cuts what is left of the latest fork: the rest begins above the cut, and below it goes on.
-pub fn narrow(
-    code: &[u32],
-    memory: &Memory,
-    registers: &mut Registers,
-    cells: &mut Memory,
-    lows: &mut [u64],
-    highs: &mut [u64],
-    table: &mut [u64],
-    count: usize,
-    input: usize,
-    class: u64,
-    hint: u64,
-    steps: usize,
-    i: Instruction,
-) -> u64
-    requires { ⌜ (length (now lows) ≡ length (now highs)) × (input < length (now lows)) × (8 * count + 8 ≤ length (now table)) ⌝ }
-    requires { ⌜ Starts (probed (now code) (now memory) steps i (now lows) input) class (getD (now lows) input 0) (getD (now highs) input 0) ⌝ }
-    ensures { λ r. ⌜ Parted (probed (now (code .entry)) (now (memory .entry)) steps i (now (lows .entry)) input) class input (now (lows .entry)) (now (highs .entry)) (now (lows .exit)) (now (highs .exit)) r ⌝ }
-    ensures { λ r. ⌜ forksIn (now (table .exit)) (suc count) ≡ restAt (forkIn (now (table .entry)) count) (r + 1) (forkIn (now (table .entry)) count .spent) ∷ forksIn (now (table .entry)) count ⌝ }
-{
-    let lo = lows[input];
-    let hi = highs[input];
-    let m = cut(
-        code,
-        memory,
-        registers,
-        cells,
-        lows,
-        input,
-        lo,
-        hi,
-        class,
-        hint,
-        steps,
-        i,
-    );
-    rise(table, count, m, hi);
     highs[input] = m;
     m
 }

@@ -1,13 +1,14 @@
 // A guess at where a class changes, from the two corners alone. Any guess is right: a good one makes the cut two or three probes.
+use listing::Sorting;
+use listing::operand_value;
+use listing::sorting_of;
 use riscu::Instruction;
 use riscu::Operation;
 use riscu::plain::Registers;
-use riscu::plain::register;
 use riscu::words::add;
 use riscu::words::product;
 use riscu::words::quotient;
 use riscu::words::sub;
-use riscu::words::widen;
 ghost use Prim.Native.Nat.{_<_, _^_};
 
 // The last multiple of c that the greater of two values has passed.
@@ -96,27 +97,22 @@ fn branch_hint(a: u64, a_high: u64, b: u64, b_high: u64, lo: u64, hi: u64) -> u6
 pub fn hint(i: Instruction, low: &Registers, high: &Registers, lo: u64, hi: u64) -> u64
     ensures free { λ r. ⌜ r < 2 ^ 64 ⌝ }
 {
-    match i {
-        Instruction::Addi { rd, rs1, imm } => {
-            let b = widen(imm);
-            let a = register(low, rs1);
-            let a_high = register(high, rs1);
-            operation_hint(Operation::Add, a, a_high, b, b, lo, hi)
-        }
-        Instruction::Register { op, rd, rs1, rs2 } => {
-            let a = register(low, rs1);
-            let a_high = register(high, rs1);
-            let b = register(low, rs2);
-            let b_high = register(high, rs2);
+    let s = sorting_of(i);
+    match s {
+        Sorting::Operates { op, first, second } => {
+            let a = operand_value(first, low);
+            let a_high = operand_value(first, high);
+            let b = operand_value(second, low);
+            let b_high = operand_value(second, high);
             operation_hint(op, a, a_high, b, b_high, lo, hi)
         }
-        Instruction::Beq { rs1, rs2, imm } => {
-            let a = register(low, rs1);
-            let a_high = register(high, rs1);
-            let b = register(low, rs2);
-            let b_high = register(high, rs2);
+        Sorting::Compares { first, second } => {
+            let a = operand_value(first, low);
+            let a_high = operand_value(first, high);
+            let b = operand_value(second, low);
+            let b_high = operand_value(second, high);
             branch_hint(a, a_high, b, b_high, lo, hi)
         }
-        _ => lo,
+        Sorting::Nothing => lo,
     }
 }

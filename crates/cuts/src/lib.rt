@@ -4,4 +4,4 @@
 pub mod entries;
 pub mod forking;
 pub mod hints;
-pub mod probes;
+mod probes;

@@ -9,13 +9,13 @@ ghost use Prim.Native.Nat.{_+_, _<_, _≤_, _-_, _*_};
 ghost use lib.ListN.{length};
 ghost use Rattle.cuts.specs.Cutting.{probed, Starts, Turning};
 
-// The class of an instruction at step n where one input of the choice is x. The choice is as before; the registers and cells are
+// The class of an instruction at step n where one input of the choice is x. The choice is as before; the registers and scratch are
 // lent to run in, and what is left in them is free.
-pub fn probe(
+fn probe(
     code: &[u32],
     memory: &Memory,
     registers: &mut Registers,
-    cells: &mut Memory,
+    scratch: &mut Memory,
     choice: &mut [u64],
     input: usize,
     x: u64,
@@ -23,11 +23,12 @@ pub fn probe(
     i: Instruction,
 ) -> u64
     requires { ⌜ input < length (now choice) ⌝ }
-    ensures { λ r. ⌜ (r ≡ probed (now (code .entry)) (now (memory .entry)) n i (now (choice .entry)) input x) × (now (choice .exit) ≡ now (choice .entry)) ⌝ }
+    ensures { λ r. ⌜ r ≡ probed (now (code .entry)) (now (memory .entry)) n i (now (choice .entry)) input x ⌝ }
+    ensures { λ r. ⌜ now (choice .exit) ≡ now (choice .entry) ⌝ }
 {
     let old = choice[input];
     choice[input] = x;
-    let at = run(code, memory, choice, n, registers, cells);
+    let at = run(code, memory, choice, n, registers, scratch);
     choice[input] = old;
     class_of(i, registers)
 }
@@ -61,12 +62,12 @@ pub fn guess(a: u64, b: u64, hint: u64, turn: usize) -> u64
 }
 
 // The last value of an input, from lo to below hi, whose class is that of lo, where one above it is not: at most 71 probes, and two
-// where the hint is that value. Registers and cells are lent to run in, and what is left in them is free.
+// where the hint is that value. Registers and scratch are lent to run in, and what is left in them is free.
 pub fn cut(
     code: &[u32],
     memory: &Memory,
     registers: &mut Registers,
-    cells: &mut Memory,
+    scratch: &mut Memory,
     choice: &mut [u64],
     input: usize,
     lo: u64,
@@ -78,14 +79,15 @@ pub fn cut(
 ) -> u64
     requires { ⌜ input < length (now choice) ⌝ }
     requires { ⌜ Starts (probed (now code) (now memory) n i (now choice) input) class lo hi ⌝ }
-    ensures { λ r. ⌜ Turning (probed (now (code .entry)) (now (memory .entry)) n i (now (choice .entry)) input) class lo hi r × (now (choice .exit) ≡ now (choice .entry)) ⌝ }
+    ensures { λ r. ⌜ Turning (probed (now (code .entry)) (now (memory .entry)) n i (now (choice .entry)) input) class lo hi r ⌝ }
+    ensures { λ r. ⌜ now (choice .exit) ≡ now (choice .entry) ⌝ }
 {
     let mut a = lo;
     let mut b = hi;
     let mut turn: usize = 0;
     while 1 < b - a {
         let x = guess(a, b, hint, turn);
-        let c = probe(code, memory, registers, cells, choice, input, x, n, i);
+        let c = probe(code, memory, registers, scratch, choice, input, x, n, i);
         if c == class {
             a = x;
         } else {

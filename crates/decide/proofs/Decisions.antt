@@ -1,15 +1,14 @@
 -- The decision at the corners is the ending order over the corners' view of a group, and what it says of the step that follows.
 -- Assumes nothing.
 use mathlib.Core.Path.{_≡_, refl, sym, ap, _∙_}
-use mathlib.Core.Bool.{Bool, cond, not, _||_}
+use mathlib.Core.Bool.{Bool, cond}
 use mathlib.Core.List.{List, [], _∷_, _++_}
-use Prim.Native.Nat.{ℕ, _+_, _-_, _/_, _%_, _≤_}
+use Prim.Native.Nat.{ℕ, _+_, _-_, _≤_}
 use native.Mathlib.Omega.{arith}
 use lib.Dec.{eqb, ltb}
-use lib.ListN.{length, getD}
+use lib.ListN.{length}
 use Rattle.boxes.proofs.Lists.{by-test}
-use Rattle.riscu.specs.Machine.{State}
-use Rattle.riscu.specs.Decode.{decodeOf}
+use Rattle.riscu.specs.Machine.{State, badPc, fetch}
 use Rattle.riscu.specs.declared.At.{At}
 use Rattle.riscu.specs.declared.Operation.{Operation}
 use Rattle.riscu.specs.declared.Operation.the-variants.{Add, Sub, Mul, Divu, Remu, Sltu}
@@ -17,15 +16,20 @@ use Rattle.riscu.specs.declared.Instruction.{Instruction}
 use Rattle.riscu.specs.declared.Instruction.the-variants.{Lui, Addi, Register, Ld, Sd, Beq, Jal, Jalr, Ecall}
 use Rattle.riscu.specs.declared.Decoded.{Decoded}
 use Rattle.riscu.specs.declared.Decoded.the-variants.{Row, NoRow}
-use Rattle.listing.specs.Group.{Job, Group, classOf}
-use Rattle.listing.specs.Ending.{Point, first, operationPoints, points, writes, needs, endAt, endBy}
+use Rattle.listing.specs.Group.{Job, Group, sortingOf, classOf}
+use Rattle.listing.specs.Ending.{Point, first, operandOpen, operandValue, operationPoints, operandPoints, addressPoints, points}
+use Rattle.listing.specs.Ending.{writes, needs, endAt, endBy}
+use Rattle.listing.specs.declared.Operand.{Operand}
+use Rattle.listing.specs.declared.Operand.the-variants.{InRegister, Constant}
+use Rattle.listing.specs.declared.Sorting.{Sorting}
+use Rattle.listing.specs.declared.Sorting.the-variants.{Operates, Compares, Nothing}
 use Rattle.listing.specs.declared.End.the-variants.{TraceFull}
-use Rattle.corners.proofs.Corner.{lowState, highState, cornersOf}
 use Rattle.decide.specs.Corner.{machine, cornerView, verdict, sameClass, onward, unlessEnds, rowDecision, decision, endIn}
 use Rattle.decide.specs.declared.Limits.{Limits}
 use Rattle.decide.specs.declared.Used.{Used}
 use Rattle.decide.specs.declared.Decision.{Decision}
 use Rattle.corners.proofs.Needs.{needs-corners}
+use Rattle.corners.specs.Good.{lowState, highState, cornersOf}
 
 pub writes-small : (left : Bool) (i : Instruction) → writes left i ≤ 2
 unfolding writes
@@ -42,15 +46,7 @@ writes-small left Ecall = by-test left (λ t. rw t (omega arith)) (λ t. rw t (o
 -- the class hangs on the registers alone
 pub class-by-registers : (i : Instruction) (s : State) → classOf i (machine (s .registers)) ≡ classOf i s
 unfolding classOf
-class-by-registers (Lui rd imm) s = refl
-class-by-registers (Addi rd rs1 imm) s = refl
-class-by-registers (Register op rd rs1 rs2) s = refl
-class-by-registers (Ld rd rs1 imm) s = refl
-class-by-registers (Sd rs1 rs2 imm) s = refl
-class-by-registers (Beq rs1 rs2 imm) s = refl
-class-by-registers (Jal rd imm) s = refl
-class-by-registers (Jalr rd rs1 imm) s = refl
-class-by-registers Ecall s = refl
+class-by-registers i s = refl
 
 -- a point after others: the others first
 added : (d : Decision) (q : Point) (ps : List Point) → endIn d ≡ first (q ∷ []) → endIn (unlessEnds d (verdict ps)) ≡ first (ps ++ (q ∷ []))
@@ -66,27 +62,45 @@ module _ (j : Job) (g : Group) where
   high = highState j g .registers
 
   -- the corners' view of a group asks only the registers
-  operation-by-registers : (op : Operation) (a b : ℕ)
+  open-by-registers : (a : Operand) → operandOpen (cornerView low high) a ≡ operandOpen (cornersOf j g) a
+  open-by-registers (InRegister r) = refl
+  open-by-registers (Constant n) = refl
+
+  value-by-registers : (a : Operand) → operandValue (cornerView low high) a ≡ operandValue (cornersOf j g) a
+  value-by-registers (InRegister r) = refl
+  value-by-registers (Constant n) = refl
+
+  operation-by-registers : (op : Operation) (a b : Operand)
       → operationPoints (cornerView low high) op a b ≡ operationPoints (cornersOf j g) op a b
   unfolding operationPoints
-  operation-by-registers Add a b = refl
-  operation-by-registers Sub a b = refl
-  operation-by-registers Mul a b = refl
-  operation-by-registers Divu a b = refl
-  operation-by-registers Remu a b = refl
-  operation-by-registers Sltu a b = refl
+  operation-by-registers Add a b = cc (open-by-registers a, open-by-registers b)
+  operation-by-registers Sub a b = cc (open-by-registers a, open-by-registers b)
+  operation-by-registers Mul a b = cc (open-by-registers a, open-by-registers b, value-by-registers a, value-by-registers b)
+  operation-by-registers Divu a b = cc (open-by-registers a, open-by-registers b, value-by-registers b)
+  operation-by-registers Remu a b = cc (open-by-registers b, value-by-registers b)
+  operation-by-registers Sltu a b = cc (open-by-registers a, open-by-registers b)
+
+  operands-by-registers : (x : Sorting) → operandPoints (cornerView low high) x ≡ operandPoints (cornersOf j g) x
+  unfolding operandPoints
+  operands-by-registers (Operates op a b) = operation-by-registers op a b
+  operands-by-registers (Compares a b) = cc (open-by-registers a, open-by-registers b)
+  operands-by-registers Nothing = refl
+
+  address-by-registers : (i : Instruction) → addressPoints (cornerView low high) i ≡ addressPoints (cornersOf j g) i
+  unfolding addressPoints
+  address-by-registers (Lui rd imm) = refl
+  address-by-registers (Addi rd rs1 imm) = refl
+  address-by-registers (Register op rd rs1 rs2) = refl
+  address-by-registers (Ld rd rs1 imm) = refl
+  address-by-registers (Sd rs1 rs2 imm) = refl
+  address-by-registers (Beq rs1 rs2 imm) = refl
+  address-by-registers (Jal rd imm) = refl
+  address-by-registers (Jalr rd rs1 imm) = refl
+  address-by-registers Ecall = refl
 
   pub points-by-registers : (i : Instruction) → points (cornerView low high) i ≡ points (cornersOf j g) i
   unfolding points
-  points-by-registers (Lui rd imm) = refl
-  points-by-registers (Addi rd rs1 imm) = refl
-  points-by-registers (Register op rd rs1 rs2) = ap (λ (l : List Point). cond (eqb rd 0) [] l) (operation-by-registers op rs1 rs2)
-  points-by-registers (Ld rd rs1 imm) = refl
-  points-by-registers (Sd rs1 rs2 imm) = refl
-  points-by-registers (Beq rs1 rs2 imm) = refl
-  points-by-registers (Jal rd imm) = refl
-  points-by-registers (Jalr rd rs1 imm) = refl
-  points-by-registers Ecall = refl
+  points-by-registers i = λ k. address-by-registers i k ++ operands-by-registers (sortingOf i) k
 
   abbrev left : Bool
   left = ltb (lowState j g .reads) (length (g .box))
@@ -138,8 +152,7 @@ module _ (j : Job) (g : Group) where
   unfolding endIn decision endBy held-limits held-used held-at
   decided =
       by-test (eqb (g .steps) (j .limit)) (λ s. rw s) (λ s. rw s
-      (by-test (not (eqb (lowState j g .pc % 4) 0) || not (ltb (lowState j g .pc / 4) (length (j .code)))) (λ p. rw p) (λ p. rw p
-      (row-ends (decodeOf (getD (j .code) (lowState j g .pc / 4) 0))))))
+      (by-test (badPc (j .code) (lowState j g .pc)) (λ p. rw p) (λ p. rw p (row-ends (fetch (j .code) (lowState j g .pc))))))
 
   pub decision-ends : (m : Limits) (u : Used) (a : At) (l h : List ℕ) → Stands m u a l h
       → endIn (decision (j .code) m u a l h) ≡ endBy j g (cornersOf j g)

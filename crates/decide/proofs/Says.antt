@@ -3,16 +3,14 @@
 -- Assumes nothing.
 use mathlib.Core.Path.{_≡_, refl, sym, ap, _∙_, subst}
 use mathlib.Core.Logic.{_≢_}
-use mathlib.Core.Bool.{Bool, true, false, cond, not, _&&_, _||_}
+use mathlib.Core.Bool.{Bool, true, false, cond}
 use mathlib.Core.List.{List}
 use mathlib.Core.Option.{none, some}
-use Prim.Native.Nat.{ℕ, _+_, _-_, _/_, _%_}
+use Prim.Native.Nat.{ℕ, _+_, _-_}
 use lib.Dec.{eqb, ltb}
-use lib.ListN.{length, getD}
 use borrow.Author.Tests.{eqb-true, eqb-false}
 use Rattle.boxes.proofs.Lists.{by-test}
-use Rattle.riscu.specs.Machine.{fetch}
-use Rattle.riscu.specs.Decode.{decodeOf}
+use Rattle.riscu.specs.Machine.{badPc, fetch}
 use Rattle.riscu.specs.declared.At.{At}
 use Rattle.riscu.specs.declared.Instruction.{Instruction}
 use Rattle.riscu.specs.declared.Decoded.{Decoded}
@@ -20,7 +18,6 @@ use Rattle.riscu.specs.declared.Decoded.the-variants.{Row, NoRow}
 use Rattle.listing.specs.Group.{Job, Group, classOf}
 use Rattle.listing.specs.Ending.{points, writes, endBy}
 use Rattle.listing.specs.declared.End.{End}
-use Rattle.corners.proofs.Corner.{lowState, highState, cornersOf}
 use Rattle.decide.specs.Corner.{machine, cornerView, verdict, sameClass, onward, unlessEnds, rowDecision, decision, endIn}
 use Rattle.decide.specs.declared.Limits.{Limits}
 use Rattle.decide.specs.declared.Used.{Used}
@@ -29,12 +26,7 @@ use Rattle.decide.specs.declared.Verdict.the-variants.{Ends, Passes}
 use Rattle.decide.specs.declared.Decision.{Decision}
 use Rattle.decide.specs.declared.Decision.the-variants.{Ended, Steps, Forks}
 use Rattle.decide.proofs.Decisions.{Stands, decision-ends, class-by-registers}
-
-both : (x y : Bool) → (not x || not y) ≡ false → (x && y) ≡ true
-both true true e = refl
-both true false e = sym e
-both false true e = sym e
-both false false e = sym e
+use Rattle.corners.specs.Good.{lowState, highState, cornersOf}
 
 module _ (code : List ℕ) (pc : ℕ) (l h : List ℕ) where
   -- the row that is at pc, and whether the class is the same at both corners
@@ -43,10 +35,10 @@ module _ (code : List ℕ) (pc : ℕ) (l h : List ℕ) where
   Says (Steps i) = (fetch code pc ≡ Row i) × (sameClass i l h ≡ true)
   Says (Forks i) = (fetch code pc ≡ Row i) × (sameClass i l h ≡ false)
 
-  onward-says : (room : ℕ) (left : Bool) (i : Instruction) → fetch code pc ≡ Row i → Says (onward room left (sameClass i l h) i)
+  onward-says : (entries : ℕ) (left : Bool) (i : Instruction) → fetch code pc ≡ Row i → Says (onward entries left (sameClass i l h) i)
   unfolding onward
-  onward-says room left i f =
-      by-test (ltb room (writes left i + cond (sameClass i l h) 0 1)) (λ t. rw t tt) (λ t. rw t (go (sameClass i l h) refl))
+  onward-says entries left i f =
+      by-test (ltb entries (writes left i + cond (sameClass i l h) 0 1)) (λ t. rw t tt) (λ t. rw t (go (sameClass i l h) refl))
     where
       go : (b : Bool) → sameClass i l h ≡ b → Says (cond b (Steps i) (Forks i))
       go true s = (f, s)
@@ -57,19 +49,18 @@ module _ (code : List ℕ) (pc : ℕ) (l h : List ℕ) where
   unless-says d (Ends e) s = tt
   unless-says d Passes s = s
 
-  row-says : (room : ℕ) (left : Bool) (d : Decoded) → fetch code pc ≡ d → Says (rowDecision room left l h d)
+  row-says : (entries : ℕ) (left : Bool) (d : Decoded) → fetch code pc ≡ d → Says (rowDecision entries left l h d)
   unfolding rowDecision
-  row-says room left NoRow f = tt
-  row-says room left (Row i) f =
-      unless-says (onward room left (sameClass i l h) i) (verdict (points (cornerView l h) i)) (onward-says room left i f)
+  row-says entries left NoRow f = tt
+  row-says entries left (Row i) f =
+      unless-says (onward entries left (sameClass i l h) i) (verdict (points (cornerView l h) i)) (onward-says entries left i f)
 
 decision-says : (code : List ℕ) (m : Limits) (u : Used) (a : At) (l h : List ℕ) → Says code (a .pc) l h (decision code m u a l h)
-unfolding decision fetch
+unfolding decision
 decision-says code m u a l h =
     by-test (eqb (u .steps) (m .steps)) (λ s. rw s tt) (λ s. rw s
-    (by-test (not (eqb (a .pc % 4) 0) || not (ltb (a .pc / 4) (length code))) (λ p. rw p tt) (λ p. rw p
-    (row-says code (a .pc) l h (m .entries - u .entries) (ltb (a .reads) (m .inputs)) (decodeOf (getD code (a .pc / 4) 0))
-    (rw (both (eqb (a .pc % 4) 0) (ltb (a .pc / 4) (length code)) p))))))
+    (by-test (badPc code (a .pc)) (λ p. rw p tt) (λ p. rw p
+    (row-says code (a .pc) l h (m .entries - u .entries) (ltb (a .reads) (m .inputs)) (fetch code (a .pc)) refl))))
 
 module _ {j : Job} {g : Group} {m : Limits} {u : Used} {a : At} {l h : List ℕ} (s : Stands j g m u a l h) where
   fetched : {i : Instruction} → fetch (j .code) (a .pc) ≡ Row i → fetch (j .code) (lowState j g .pc) ≡ Row i

@@ -1,17 +1,21 @@
 -- Points tried one by one: the first that applies is the verdict. Assumes nothing.
-use mathlib.Core.Path.{_≡_, refl}
-use mathlib.Core.Bool.{Bool, true, false, not, _&&_, _||_}
-use mathlib.Core.List.{List, [], _∷_}
+use mathlib.Core.Path.{_≡_, refl, sym, _∙_}
+use mathlib.Core.Bool.{Bool, true, false}
+use mathlib.Core.List.{List, [], _∷_, _++_}
 use Prim.Native.Nat.{ℕ, _+_, _-_, _<_, _≤_, min, max}
 use native.Mathlib.Omega.{arith}
 use native.Mathlib.Decide.{decLt}
 use lib.Dec.{ltb, eqb}
+use lib.IntN.{ℤ}
 use borrow.Author.Tests.{lt-ltb, le-ltb}
-use Rattle.listing.specs.Ending.{Point, _⇒_, badAddress}
+use Rattle.boxes.proofs.Lists.{by-test}
+use Rattle.riscu.specs.declared.Instruction.the-variants.{Addi}
+use Rattle.listing.specs.Group.{sortingOf}
+use Rattle.listing.specs.Ending.{Point, _⇒_, callOpen, badCall, badRead, operationPoints, operandPoints, addressPoints, points}
 use Rattle.listing.specs.declared.Reason.the-variants.{CallOpen}
 use Rattle.listing.specs.declared.End.{End}
 use Rattle.listing.specs.declared.End.the-variants.{Exit, BadAddress, BadCall, NotFollowed}
-use Rattle.decide.specs.Corner.{openAt, valueAt, verdict}
+use Rattle.decide.specs.Corner.{cornerView, verdict}
 use Rattle.decide.specs.declared.Verdict.{Verdict}
 use Rattle.decide.specs.declared.Verdict.the-variants.{Ends, Passes}
 
@@ -28,15 +32,38 @@ pub passes : Passes ≡ verdict []
 unfolding verdict
 passes = refl
 
+-- points after others: the others first
+ends-first : (ps qs : List Point) (e : End) → verdict ps ≡ Ends e → verdict (ps ++ qs) ≡ Ends e
+unfolding verdict
+ends-first [] qs e d = let z : _≡_ {A = ℕ} 0 1 = cc in absurd (omega arith)
+ends-first (p ∷ ps) qs e d = let ih = ends-first ps qs e in by-test (p .applies) (λ t. rw t (rw t at d)) (λ t. rw t (ih (rw t at d)))
+
+passes-first : (ps qs : List Point) → verdict ps ≡ Passes → verdict (ps ++ qs) ≡ verdict qs
+unfolding verdict
+passes-first [] qs d = refl
+passes-first (p ∷ ps) qs d =
+    let ih = passes-first ps qs in
+    by-test (p .applies) (λ t. let z : _≡_ {A = ℕ} 0 1 = cc in absurd (omega arith)) (λ t. rw t (ih (rw t at d)))
+
+pub ends-before : (ps qs : List Point) {v : Verdict} {e : End} → v ≡ verdict ps → v ≡ Ends e → v ≡ verdict (ps ++ qs)
+ends-before ps qs {e} p d = d ∙ sym (ends-first ps qs e (sym p ∙ d))
+
+pub passes-before : (ps qs : List Point) {v r : Verdict} → v ≡ verdict ps → v ≡ Passes → r ≡ verdict qs → r ≡ verdict (ps ++ qs)
+passes-before ps qs p d k = k ∙ sym (passes-first ps qs (sym p ∙ d))
+
+-- no point ends ADDI: its second operand is never open
+pub addi-passes : (l h : List ℕ) (rd rs1 : ℕ) (imm : ℤ) → verdict (points (cornerView l h) (Addi rd rs1 imm)) ≡ Passes
+unfolding points addressPoints sortingOf operandPoints operationPoints verdict
+addi-passes l h rd rs1 imm = by-test (eqb rd 0) (λ t. rw t) (λ t. rw t)
+
 -- the points of a call whose number is k
 abbrev pub callPoints : List ℕ → List ℕ → ℕ → List Point
 callPoints l h k =
-    let read = eqb k 63 in
-    let exit = eqb k 93 in
-    (openAt l h 17 || read && (openAt l h 10 || openAt l h 11 || openAt l h 12) ⇒ NotFollowed CallOpen)
-    ∷ (not (read || exit) || read && not (eqb (valueAt l h 10) 0 && eqb (valueAt l h 12) 8) ⇒ BadCall)
-    ∷ (read && badAddress (valueAt l h 11) ⇒ BadAddress)
-    ∷ (exit ⇒ Exit)
+    let v = cornerView l h in
+    (callOpen v (eqb k 63) ⇒ NotFollowed CallOpen)
+    ∷ (badCall v (eqb k 63) (eqb k 93) ⇒ BadCall)
+    ∷ (badRead v (eqb k 63) ⇒ BadAddress)
+    ∷ (eqb k 93 ⇒ Exit)
     ∷ []
 
 ltb-same : (a b c d : ℕ) → (a < b → c < d) → (c < d → a < b) → ltb a b ≡ ltb c d

@@ -1,4 +1,8 @@
 // Tests on words, and the class of a machine at an instruction.
+use listing::Operand;
+use listing::Sorting;
+use listing::operand_value;
+use listing::sorting_of;
 use riscu::Instruction;
 use riscu::Operation;
 use riscu::plain::Registers;
@@ -10,10 +14,11 @@ ghost use mathlib.Core.Path.{_≡_};
 ghost use mathlib.Core.Bool.{cond};
 ghost use Prim.Native.Nat.{_+_, _/_, min};
 ghost use lib.Dec.{eqb};
-ghost use lib.ListN.{getD};
-ghost use Rattle.riscu.specs.Word.{size, widen};
-ghost use Rattle.riscu.specs.declared.Operation.the-variants.{Add};
-ghost use Rattle.listing.specs.Group.{sortOf, comparison, classOf};
+ghost use Rattle.riscu.specs.Word.{size};
+ghost use Rattle.riscu.specs.declared.Instruction.the-variants.{Addi, Register};
+ghost use Rattle.listing.specs.declared.Operand.the-variants.{InRegister};
+ghost use Rattle.listing.specs.declared.Sorting.the-variants.{Compares};
+ghost use Rattle.listing.specs.Group.{sortOf, comparison, operand, classBy, classOf};
 ghost use Rattle.listing.specs.Ending.{isPower, badAddress};
 ghost use Rattle.decide.specs.Corner.{machine};
 
@@ -40,13 +45,13 @@ pub fn least(a: u64, b: u64) -> u64
 }
 
 // The carry of a sum.
-pub fn carry(a: u64, b: u64) -> u64
+fn carry(a: u64, b: u64) -> u64
     ensures { λ r. ⌜ r ≡ (a + b) / size ⌝ }
 {
     if 18446744073709551615 - b < a { 1 } else { 0 }
 }
 
-pub fn sort_of(op: Operation, a: u64, b: u64) -> u64
+fn sort_of(op: Operation, a: u64, b: u64) -> u64
     ensures { λ r. ⌜ r ≡ sortOf op a b ⌝ }
 {
     match op {
@@ -63,7 +68,7 @@ pub fn sort_of(op: Operation, a: u64, b: u64) -> u64
 }
 
 // Less, equal, greater.
-pub fn comparison(a: u64, b: u64) -> u64
+fn comparison(a: u64, b: u64) -> u64
     ensures { λ r. ⌜ r ≡ comparison a b ⌝ }
 {
     if a < b {
@@ -75,15 +80,16 @@ pub fn comparison(a: u64, b: u64) -> u64
     }
 }
 
-// The class of an operation on a register and a word, into a register.
+// The class of an operation into a register.
 fn sorted(op: Operation, rd: usize, a: u64, b: u64) -> u64
     ensures { λ r. ⌜ r ≡ cond (eqb rd 0) 0 (sortOf op a b) ⌝ }
 {
     if rd == 0 { 0 } else { sort_of(op, a, b) }
 }
 
+// The class at each instruction that sorts.
 pub fn addi_class(registers: &Registers, rd: usize, rs1: usize, imm: i64) -> u64
-    ensures { λ r. ⌜ r ≡ cond (eqb rd 0) 0 (sortOf Add (getD (now (registers .entry)) rs1 0) (widen imm)) ⌝ }
+    ensures { λ r. ⌜ r ≡ classOf (Addi rd rs1 imm) (machine (now (registers .entry))) ⌝ }
 {
     let a = register(registers, rs1);
     let b = widen(imm);
@@ -97,7 +103,7 @@ pub fn operation_class(
     rs1: usize,
     rs2: usize,
 ) -> u64
-    ensures { λ r. ⌜ r ≡ cond (eqb rd 0) 0 (sortOf op (getD (now (registers .entry)) rs1 0) (getD (now (registers .entry)) rs2 0)) ⌝ }
+    ensures { λ r. ⌜ r ≡ classOf (Register op rd rs1 rs2) (machine (now (registers .entry))) ⌝ }
 {
     let a = register(registers, rs1);
     let b = register(registers, rs2);
@@ -105,26 +111,44 @@ pub fn operation_class(
 }
 
 pub fn branch_class(registers: &Registers, rs1: usize, rs2: usize) -> u64
-    ensures { λ r. ⌜ r ≡ comparison (getD (now (registers .entry)) rs1 0) (getD (now (registers .entry)) rs2 0) ⌝ }
+    ensures { λ r. ⌜ r ≡ classBy (Compares (InRegister rs1) (InRegister rs2)) (now (registers .entry)) ⌝ }
 {
     let a = register(registers, rs1);
     let b = register(registers, rs2);
     comparison(a, b)
 }
 
+// What an operation sorts two operands by.
+pub fn operands_sort(op: Operation, first: Operand, second: Operand, registers: &Registers) -> u64
+    ensures { λ r. ⌜ r ≡ sortOf op (operand first (now (registers .entry))) (operand second (now (registers .entry))) ⌝ }
+{
+    let a = operand_value(first, registers);
+    let b = operand_value(second, registers);
+    sort_of(op, a, b)
+}
+
+fn operands_comparison(first: Operand, second: Operand, registers: &Registers) -> u64
+    ensures { λ r. ⌜ r ≡ comparison (operand first (now (registers .entry))) (operand second (now (registers .entry))) ⌝ }
+{
+    let a = operand_value(first, registers);
+    let b = operand_value(second, registers);
+    comparison(a, b)
+}
+
+fn class_by(s: Sorting, registers: &Registers) -> u64
+    ensures { λ r. ⌜ r ≡ classBy s (now (registers .entry)) ⌝ }
+{
+    match s {
+        Sorting::Operates { op, first, second } => operands_sort(op, first, second, registers),
+        Sorting::Compares { first, second } => operands_comparison(first, second, registers),
+        Sorting::Nothing => 0,
+    }
+}
+
 // The class of a machine at an instruction.
 pub fn class_of(i: Instruction, registers: &Registers) -> u64
     ensures { λ r. ⌜ r ≡ classOf i (machine (now (registers .entry))) ⌝ }
 {
-    match i {
-        Instruction::Lui { rd, imm } => 0,
-        Instruction::Addi { rd, rs1, imm } => addi_class(registers, rd, rs1, imm),
-        Instruction::Register { op, rd, rs1, rs2 } => operation_class(registers, op, rd, rs1, rs2),
-        Instruction::Ld { rd, rs1, imm } => 0,
-        Instruction::Sd { rs1, rs2, imm } => 0,
-        Instruction::Beq { rs1, rs2, imm } => branch_class(registers, rs1, rs2),
-        Instruction::Jal { rd, imm } => 0,
-        Instruction::Jalr { rd, rs1, imm } => 0,
-        Instruction::Ecall => 0,
-    }
+    let s = sorting_of(i);
+    class_by(s, registers)
 }

@@ -50,7 +50,7 @@ pub fn writes(left: bool, i: Instruction) -> usize
 }
 
 // Whether the class is the same at both corners.
-pub fn same_class(i: Instruction, low: &Registers, high: &Registers) -> bool
+fn same_class(i: Instruction, low: &Registers, high: &Registers) -> bool
     ensures { λ r. ⌜ r ≡ sameClass i (now (low .entry)) (now (high .entry)) ⌝ }
 {
     let a = class_of(i, low);
@@ -59,7 +59,7 @@ pub fn same_class(i: Instruction, low: &Registers, high: &Registers) -> bool
 }
 
 // The trace entries that a step takes: its writes, and one more where it forks.
-pub fn needs(left: bool, i: Instruction, same: bool) -> usize
+fn needs(left: bool, i: Instruction, same: bool) -> usize
     ensures { λ r. ⌜ r ≡ writes left i + cond same 0 1 ⌝ }
 {
     let w = writes(left, i);
@@ -67,11 +67,11 @@ pub fn needs(left: bool, i: Instruction, same: bool) -> usize
 }
 
 // Point 10, and then the step.
-fn onward(i: Instruction, room: usize, left: bool, same: bool) -> Decision
-    ensures { λ r. ⌜ r ≡ onward room left same i ⌝ }
+fn onward(i: Instruction, entries: usize, left: bool, same: bool) -> Decision
+    ensures { λ r. ⌜ r ≡ onward entries left same i ⌝ }
 {
     let n = needs(left, i, same);
-    if room < n {
+    if entries < n {
         return Decision::Ended(End::TraceFull);
     }
     if same {
@@ -84,25 +84,25 @@ fn onward(i: Instruction, room: usize, left: bool, same: bool) -> Decision
 // Points 4 to 10 of an instruction.
 fn decide_row(
     i: Instruction,
-    room: usize,
+    entries: usize,
     left: bool,
     low: &Registers,
     high: &Registers,
 ) -> Decision
-    ensures { λ r. ⌜ r ≡ rowDecision room left (now (low .entry)) (now (high .entry)) (Row i) ⌝ }
+    ensures { λ r. ⌜ r ≡ rowDecision entries left (now (low .entry)) (now (high .entry)) (Row i) ⌝ }
 {
     let v = points(i, low, high);
     match v {
         Verdict::Ends(e) => Decision::Ended(e),
         Verdict::Passes => {
             let same = same_class(i, low, high);
-            onward(i, room, left, same)
+            onward(i, entries, left, same)
         }
     }
 }
 
 // The entries left.
-pub fn room(limits: Limits, used: Used) -> usize
+pub fn entries_left(limits: Limits, used: Used) -> usize
     ensures { λ r. ⌜ r ≡ limits .entries - used .entries ⌝ }
 {
     if used.entries < limits.entries {
@@ -113,14 +113,14 @@ pub fn room(limits: Limits, used: Used) -> usize
 }
 
 // Point 3, and the points after it.
-fn decide_word(word: u32, room: usize, left: bool, low: &Registers, high: &Registers) -> Decision
-    ensures { λ r. ⌜ r ≡ rowDecision room left (now (low .entry)) (now (high .entry)) (decodeOf word) ⌝ }
+fn decide_word(word: u32, entries: usize, left: bool, low: &Registers, high: &Registers) -> Decision
+    ensures { λ r. ⌜ r ≡ rowDecision entries left (now (low .entry)) (now (high .entry)) (decodeOf word) ⌝ }
 {
     let d = decode(word);
     let Decoded::Row(i) = d else {
         return Decision::Ended(End::BadWord);
     };
-    decide_row(i, room, left, low, high)
+    decide_row(i, entries, left, low, high)
 }
 
 // The ten points in their order.
@@ -147,6 +147,6 @@ pub fn decide(
     }
     let k = (pc / 4) as usize;
     let left = at.reads < limits.inputs;
-    let entries = room(limits, used);
+    let entries = entries_left(limits, used);
     decide_word(code[k], entries, left, low, high)
 }

@@ -3,9 +3,12 @@ use crate::Verdict;
 use crate::classes::bad_address;
 use crate::classes::is_power;
 use crate::classes::least;
-use crate::classes::sort_of;
+use crate::classes::operands_sort;
 use listing::End;
+use listing::Operand;
 use listing::Reason;
+use listing::Sorting;
+use listing::sorting_of;
 use riscu::Instruction;
 use riscu::Operation;
 use riscu::plain::Registers;
@@ -13,17 +16,20 @@ use riscu::plain::offset;
 use riscu::plain::register;
 ghost use mathlib.Core.Path.{_≡_};
 ghost use Prim.Native.Nat.{_+_, min, max};
-ghost use lib.Dec.{eqb, ltb};
+ghost use lib.Dec.{ltb};
 ghost use lib.IntN.{pos};
-ghost use Rattle.riscu.specs.declared.Operation.the-variants.{Add, Mul, Divu, Remu};
+ghost use Rattle.riscu.specs.declared.Operation.the-variants.{Mul, Divu, Remu};
 ghost use Rattle.riscu.specs.declared.Instruction.the-variants.{Register, Ld, Jalr, Ecall};
-ghost use Rattle.listing.specs.Ending.{operationPoints, points};
-ghost use Rattle.decide.specs.Corner.{cornerView, openAt, valueAt, quotientAt, verdict};
-ghost use Rattle.decide.specs.Corner.{bothOpen, oddMultiplier, oddDivisor, farApart, badAccess, callOpen, badCall, badRead};
+ghost use Rattle.listing.specs.declared.Operand.the-variants.{InRegister};
+ghost use Rattle.listing.specs.declared.Sorting.the-variants.{Compares};
+ghost use Rattle.listing.specs.Ending.{openAt, valueAt, badAccess, callOpen, badCall, badRead, operandOpen, operandValue, bothOpen};
+ghost use Rattle.listing.specs.Ending.{zeroDivisor, oddMultiplier, oddDivisor, farApart, divisorPoints, operationPoints};
+ghost use Rattle.listing.specs.Ending.{operandPoints, addressPoints, points};
+ghost use Rattle.decide.specs.Corner.{cornerView, verdict};
 
 // Whether a register differs at the corners.
-pub fn open_at(low: &Registers, high: &Registers, r: usize) -> bool
-    ensures { λ b. ⌜ b ≡ openAt (now (low .entry)) (now (high .entry)) r ⌝ }
+fn open_at(low: &Registers, high: &Registers, r: usize) -> bool
+    ensures { λ b. ⌜ b ≡ openAt (cornerView (now (low .entry)) (now (high .entry))) r ⌝ }
 {
     let a = register(low, r);
     let b = register(high, r);
@@ -32,169 +38,15 @@ pub fn open_at(low: &Registers, high: &Registers, r: usize) -> bool
 
 // The least that a register has.
 fn value_at(low: &Registers, high: &Registers, r: usize) -> u64
-    ensures { λ v. ⌜ v ≡ valueAt (now (low .entry)) (now (high .entry)) r ⌝ }
+    ensures { λ v. ⌜ v ≡ valueAt (cornerView (now (low .entry)) (now (high .entry))) r ⌝ }
 {
     let a = register(low, r);
     let b = register(high, r);
     least(a, b)
 }
 
-fn both_open(low: &Registers, high: &Registers, a: usize, b: usize) -> bool
-    ensures { λ r. ⌜ r ≡ bothOpen (now (low .entry)) (now (high .entry)) a b ⌝ }
-{
-    let x = open_at(low, high, a);
-    let y = open_at(low, high, b);
-    x & y
-}
-
-// a is neither 0 nor a power of two, and b is open.
-fn multiplier(low: &Registers, high: &Registers, a: usize, b: usize) -> bool
-    ensures { λ r. ⌜ r ≡ oddMultiplier (now (low .entry)) (now (high .entry)) a b ⌝ }
-{
-    let x = open_at(low, high, b);
-    if x {
-        let v = value_at(low, high, a);
-        let p = is_power(v);
-        !((v == 0) | p)
-    } else {
-        false
-    }
-}
-
-// b is no power of two, and a is open.
-fn odd_divisor(low: &Registers, high: &Registers, a: usize, b: usize) -> bool
-    ensures { λ r. ⌜ r ≡ oddDivisor (now (low .entry)) (now (high .entry)) a b ⌝ }
-{
-    let x = open_at(low, high, a);
-    if x {
-        let v = value_at(low, high, b);
-        let p = is_power(v);
-        !p
-    } else {
-        false
-    }
-}
-
-fn zero_divisor(low: &Registers, high: &Registers, b: usize) -> bool
-    ensures { λ r. ⌜ r ≡ eqb (valueAt (now (low .entry)) (now (high .entry)) b) 0 ⌝ }
-{
-    let v = value_at(low, high, b);
-    v == 0
-}
-
-// More than 1 apart.
-fn apart(a: u64, b: u64) -> bool
-    ensures { λ r. ⌜ r ≡ ltb (min a b + 1) (max a b) ⌝ }
-{
-    if a < b { 1 < b - a } else { 1 < a - b }
-}
-
-fn quotient_at(op: Operation, registers: &Registers, a: usize, b: usize) -> u64
-    ensures { λ r. ⌜ r ≡ quotientAt op (now (registers .entry)) a b ⌝ }
-{
-    let x = register(registers, a);
-    let y = register(registers, b);
-    sort_of(op, x, y)
-}
-
-fn quotients(op: Operation, low: &Registers, high: &Registers, a: usize, b: usize) -> bool
-    ensures { λ r. ⌜ r ≡ farApart (now (low .entry)) (now (high .entry)) op a b ⌝ }
-{
-    let x = quotient_at(op, low, a, b);
-    let y = quotient_at(op, high, a, b);
-    apart(x, y)
-}
-
-pub fn open_points(low: &Registers, high: &Registers, a: usize, b: usize) -> Verdict
-    ensures { λ r. ⌜ r ≡ verdict (operationPoints (cornerView (now (low .entry)) (now (high .entry))) Add a b) ⌝ }
-{
-    if both_open(low, high, a, b) {
-        return Verdict::Ends(End::NotFollowed(Reason::BothOpen));
-    }
-    Verdict::Passes
-}
-
-fn product_points(low: &Registers, high: &Registers, a: usize, b: usize) -> Verdict
-    ensures { λ r. ⌜ r ≡ verdict (operationPoints (cornerView (now (low .entry)) (now (high .entry))) Mul a b) ⌝ }
-{
-    if both_open(low, high, a, b) {
-        return Verdict::Ends(End::NotFollowed(Reason::BothOpen));
-    }
-    if multiplier(low, high, a, b) {
-        return Verdict::Ends(End::NotFollowed(Reason::Multiplier));
-    }
-    if multiplier(low, high, b, a) {
-        return Verdict::Ends(End::NotFollowed(Reason::Multiplier));
-    }
-    if quotients(Operation::Mul, low, high, a, b) {
-        return Verdict::Ends(End::NotFollowed(Reason::Quotients));
-    }
-    Verdict::Passes
-}
-
-fn quotient_points(low: &Registers, high: &Registers, a: usize, b: usize) -> Verdict
-    ensures { λ r. ⌜ r ≡ verdict (operationPoints (cornerView (now (low .entry)) (now (high .entry))) Divu a b) ⌝ }
-{
-    if open_at(low, high, b) {
-        return Verdict::Ends(End::NotFollowed(Reason::DivisorOpen));
-    }
-    if zero_divisor(low, high, b) {
-        return Verdict::Ends(End::DivisionByZero);
-    }
-    if odd_divisor(low, high, a, b) {
-        return Verdict::Ends(End::NotFollowed(Reason::Divisor));
-    }
-    Verdict::Passes
-}
-
-fn remainder_points(low: &Registers, high: &Registers, a: usize, b: usize) -> Verdict
-    ensures { λ r. ⌜ r ≡ verdict (operationPoints (cornerView (now (low .entry)) (now (high .entry))) Remu a b) ⌝ }
-{
-    if open_at(low, high, b) {
-        return Verdict::Ends(End::NotFollowed(Reason::DivisorOpen));
-    }
-    if zero_divisor(low, high, b) {
-        return Verdict::Ends(End::DivisionByZero);
-    }
-    if quotients(Operation::Remu, low, high, a, b) {
-        return Verdict::Ends(End::NotFollowed(Reason::Quotients));
-    }
-    Verdict::Passes
-}
-
-// Points 7 and 8 of an operation on two registers, not into register 0.
-fn operation_points(op: Operation, low: &Registers, high: &Registers, a: usize, b: usize) -> Verdict
-    ensures { λ r. ⌜ r ≡ verdict (operationPoints (cornerView (now (low .entry)) (now (high .entry))) op a b) ⌝ }
-{
-    match op {
-        Operation::Add => open_points(low, high, a, b),
-        Operation::Sub => open_points(low, high, a, b),
-        Operation::Mul => product_points(low, high, a, b),
-        Operation::Divu => quotient_points(low, high, a, b),
-        Operation::Remu => remainder_points(low, high, a, b),
-        Operation::Sltu => open_points(low, high, a, b),
-    }
-}
-
-pub fn register_points(
-    op: Operation,
-    rd: usize,
-    low: &Registers,
-    high: &Registers,
-    a: usize,
-    b: usize,
-) -> Verdict
-    ensures { λ r. ⌜ r ≡ verdict (points (cornerView (now (low .entry)) (now (high .entry))) (Register op rd a b)) ⌝ }
-{
-    if rd == 0 {
-        Verdict::Passes
-    } else {
-        operation_points(op, low, high, a, b)
-    }
-}
-
 fn bad_access(low: &Registers, high: &Registers, r: usize, imm: i64) -> bool
-    ensures { λ b. ⌜ b ≡ badAccess (now (low .entry)) (now (high .entry)) r imm ⌝ }
+    ensures { λ b. ⌜ b ≡ badAccess (cornerView (now (low .entry)) (now (high .entry))) r imm ⌝ }
 {
     let x = offset(low, r, imm);
     let y = offset(high, r, imm);
@@ -215,7 +67,7 @@ pub fn access_points(low: &Registers, high: &Registers, r: usize, imm: i64) -> V
 }
 
 fn base_points(low: &Registers, high: &Registers, r: usize) -> Verdict
-    ensures { λ v. ⌜ v ≡ verdict (points (cornerView (now (low .entry)) (now (high .entry))) (Jalr 0 r (pos 0))) ⌝ }
+    ensures { λ v. ⌜ v ≡ verdict (addressPoints (cornerView (now (low .entry)) (now (high .entry))) (Jalr 0 r (pos 0))) ⌝ }
 {
     if open_at(low, high, r) {
         return Verdict::Ends(End::NotFollowed(Reason::BaseOpen));
@@ -224,7 +76,7 @@ fn base_points(low: &Registers, high: &Registers, r: usize) -> Verdict
 }
 
 fn call_open(low: &Registers, high: &Registers, read: bool) -> bool
-    ensures { λ b. ⌜ b ≡ callOpen (now (low .entry)) (now (high .entry)) read ⌝ }
+    ensures { λ b. ⌜ b ≡ callOpen (cornerView (now (low .entry)) (now (high .entry))) read ⌝ }
 {
     let a = open_at(low, high, 17);
     let b = open_at(low, high, 10);
@@ -234,7 +86,7 @@ fn call_open(low: &Registers, high: &Registers, read: bool) -> bool
 }
 
 fn bad_call(low: &Registers, high: &Registers, read: bool, exit: bool) -> bool
-    ensures { λ b. ⌜ b ≡ badCall (now (low .entry)) (now (high .entry)) read exit ⌝ }
+    ensures { λ b. ⌜ b ≡ badCall (cornerView (now (low .entry)) (now (high .entry))) read exit ⌝ }
 {
     let x = value_at(low, high, 10);
     let y = value_at(low, high, 12);
@@ -242,7 +94,7 @@ fn bad_call(low: &Registers, high: &Registers, read: bool, exit: bool) -> bool
 }
 
 fn bad_read(low: &Registers, high: &Registers, read: bool) -> bool
-    ensures { λ b. ⌜ b ≡ badRead (now (low .entry)) (now (high .entry)) read ⌝ }
+    ensures { λ b. ⌜ b ≡ badRead (cornerView (now (low .entry)) (now (high .entry))) read ⌝ }
 {
     let a = value_at(low, high, 11);
     let b = bad_address(a);
@@ -250,7 +102,7 @@ fn bad_read(low: &Registers, high: &Registers, read: bool) -> bool
 }
 
 fn call_points(low: &Registers, high: &Registers) -> Verdict
-    ensures { λ v. ⌜ v ≡ verdict (points (cornerView (now (low .entry)) (now (high .entry))) Ecall) ⌝ }
+    ensures { λ v. ⌜ v ≡ verdict (addressPoints (cornerView (now (low .entry)) (now (high .entry))) Ecall) ⌝ }
 {
     let number = value_at(low, high, 17);
     let read = number == 63;
@@ -270,19 +122,234 @@ fn call_points(low: &Registers, high: &Registers) -> Verdict
     Verdict::Passes
 }
 
-// Points 4 to 9.
-pub fn points(i: Instruction, low: &Registers, high: &Registers) -> Verdict
-    ensures { λ v. ⌜ v ≡ verdict (points (cornerView (now (low .entry)) (now (high .entry))) i) ⌝ }
+// Points 4 to 6, and 9.
+fn address_points(i: Instruction, low: &Registers, high: &Registers) -> Verdict
+    ensures { λ v. ⌜ v ≡ verdict (addressPoints (cornerView (now (low .entry)) (now (high .entry))) i) ⌝ }
 {
     match i {
         Instruction::Lui { rd, imm } => Verdict::Passes,
         Instruction::Addi { rd, rs1, imm } => Verdict::Passes,
-        Instruction::Register { op, rd, rs1, rs2 } => register_points(op, rd, low, high, rs1, rs2),
+        Instruction::Register { op, rd, rs1, rs2 } => Verdict::Passes,
         Instruction::Ld { rd, rs1, imm } => access_points(low, high, rs1, imm),
         Instruction::Sd { rs1, rs2, imm } => access_points(low, high, rs1, imm),
-        Instruction::Beq { rs1, rs2, imm } => open_points(low, high, rs1, rs2),
+        Instruction::Beq { rs1, rs2, imm } => Verdict::Passes,
         Instruction::Jal { rd, imm } => Verdict::Passes,
         Instruction::Jalr { rd, rs1, imm } => base_points(low, high, rs1),
         Instruction::Ecall => call_points(low, high),
     }
+}
+
+fn operand_open(low: &Registers, high: &Registers, o: Operand) -> bool
+    ensures { λ b. ⌜ b ≡ operandOpen (cornerView (now (low .entry)) (now (high .entry))) o ⌝ }
+{
+    match o {
+        Operand::InRegister(r) => open_at(low, high, r),
+        Operand::Constant(_) => false,
+    }
+}
+
+fn operand_least(low: &Registers, high: &Registers, o: Operand) -> u64
+    ensures { λ v. ⌜ v ≡ operandValue (cornerView (now (low .entry)) (now (high .entry))) o ⌝ }
+{
+    match o {
+        Operand::InRegister(r) => value_at(low, high, r),
+        Operand::Constant(n) => n,
+    }
+}
+
+fn both_open(low: &Registers, high: &Registers, a: Operand, b: Operand) -> bool
+    ensures { λ r. ⌜ r ≡ bothOpen (cornerView (now (low .entry)) (now (high .entry))) a b ⌝ }
+{
+    let x = operand_open(low, high, a);
+    let y = operand_open(low, high, b);
+    y & x
+}
+
+// a is neither 0 nor a power of two, and b is open.
+fn multiplier(low: &Registers, high: &Registers, a: Operand, b: Operand) -> bool
+    ensures { λ r. ⌜ r ≡ oddMultiplier (cornerView (now (low .entry)) (now (high .entry))) a b ⌝ }
+{
+    let x = operand_open(low, high, b);
+    if x {
+        let v = operand_least(low, high, a);
+        let p = is_power(v);
+        !((v == 0) | p)
+    } else {
+        false
+    }
+}
+
+// b is no power of two, and a is open.
+fn odd_divisor(low: &Registers, high: &Registers, a: Operand, b: Operand) -> bool
+    ensures { λ r. ⌜ r ≡ oddDivisor (cornerView (now (low .entry)) (now (high .entry))) a b ⌝ }
+{
+    let x = operand_open(low, high, a);
+    if x {
+        let v = operand_least(low, high, b);
+        let p = is_power(v);
+        !p
+    } else {
+        false
+    }
+}
+
+fn zero_divisor(low: &Registers, high: &Registers, b: Operand) -> bool
+    ensures { λ r. ⌜ r ≡ zeroDivisor (cornerView (now (low .entry)) (now (high .entry))) b ⌝ }
+{
+    let v = operand_least(low, high, b);
+    v == 0
+}
+
+// More than 1 apart.
+fn apart(a: u64, b: u64) -> bool
+    ensures { λ r. ⌜ r ≡ ltb (min a b + 1) (max a b) ⌝ }
+{
+    if a < b { 1 < b - a } else { 1 < a - b }
+}
+
+fn quotients(op: Operation, low: &Registers, high: &Registers, a: Operand, b: Operand) -> bool
+    ensures { λ r. ⌜ r ≡ farApart (cornerView (now (low .entry)) (now (high .entry))) op a b ⌝ }
+{
+    let x = operands_sort(op, a, b, low);
+    let y = operands_sort(op, a, b, high);
+    apart(x, y)
+}
+
+fn open_operands(low: &Registers, high: &Registers, a: Operand, b: Operand) -> Verdict
+    ensures { λ r. ⌜ r ≡ verdict (operandPoints (cornerView (now (low .entry)) (now (high .entry))) (Compares a b)) ⌝ }
+{
+    if both_open(low, high, a, b) {
+        return Verdict::Ends(End::NotFollowed(Reason::BothOpen));
+    }
+    Verdict::Passes
+}
+
+fn product_points(low: &Registers, high: &Registers, a: Operand, b: Operand) -> Verdict
+    ensures { λ r. ⌜ r ≡ verdict (operationPoints (cornerView (now (low .entry)) (now (high .entry))) Mul a b) ⌝ }
+{
+    if both_open(low, high, a, b) {
+        return Verdict::Ends(End::NotFollowed(Reason::BothOpen));
+    }
+    if multiplier(low, high, a, b) {
+        return Verdict::Ends(End::NotFollowed(Reason::Multiplier));
+    }
+    if multiplier(low, high, b, a) {
+        return Verdict::Ends(End::NotFollowed(Reason::Multiplier));
+    }
+    if quotients(Operation::Mul, low, high, a, b) {
+        return Verdict::Ends(End::NotFollowed(Reason::Quotients));
+    }
+    Verdict::Passes
+}
+
+fn divisor_points(low: &Registers, high: &Registers, b: Operand) -> Verdict
+    ensures { λ r. ⌜ r ≡ verdict (divisorPoints (cornerView (now (low .entry)) (now (high .entry))) b) ⌝ }
+{
+    if operand_open(low, high, b) {
+        return Verdict::Ends(End::NotFollowed(Reason::DivisorOpen));
+    }
+    if zero_divisor(low, high, b) {
+        return Verdict::Ends(End::DivisionByZero);
+    }
+    Verdict::Passes
+}
+
+fn quotient_points(low: &Registers, high: &Registers, a: Operand, b: Operand) -> Verdict
+    ensures { λ r. ⌜ r ≡ verdict (operationPoints (cornerView (now (low .entry)) (now (high .entry))) Divu a b) ⌝ }
+{
+    let v = divisor_points(low, high, b);
+    let Verdict::Passes = v else {
+        return v;
+    };
+    if odd_divisor(low, high, a, b) {
+        return Verdict::Ends(End::NotFollowed(Reason::Divisor));
+    }
+    Verdict::Passes
+}
+
+fn remainder_points(low: &Registers, high: &Registers, a: Operand, b: Operand) -> Verdict
+    ensures { λ r. ⌜ r ≡ verdict (operationPoints (cornerView (now (low .entry)) (now (high .entry))) Remu a b) ⌝ }
+{
+    let v = divisor_points(low, high, b);
+    let Verdict::Passes = v else {
+        return v;
+    };
+    if quotients(Operation::Remu, low, high, a, b) {
+        return Verdict::Ends(End::NotFollowed(Reason::Quotients));
+    }
+    Verdict::Passes
+}
+
+// Points 7 and 8 of an operation on two operands.
+fn operation_points(
+    op: Operation,
+    low: &Registers,
+    high: &Registers,
+    a: Operand,
+    b: Operand,
+) -> Verdict
+    ensures { λ r. ⌜ r ≡ verdict (operationPoints (cornerView (now (low .entry)) (now (high .entry))) op a b) ⌝ }
+{
+    match op {
+        Operation::Add => open_operands(low, high, a, b),
+        Operation::Sub => open_operands(low, high, a, b),
+        Operation::Mul => product_points(low, high, a, b),
+        Operation::Divu => quotient_points(low, high, a, b),
+        Operation::Remu => remainder_points(low, high, a, b),
+        Operation::Sltu => open_operands(low, high, a, b),
+    }
+}
+
+fn operand_points(s: Sorting, low: &Registers, high: &Registers) -> Verdict
+    ensures { λ r. ⌜ r ≡ verdict (operandPoints (cornerView (now (low .entry)) (now (high .entry))) s) ⌝ }
+{
+    match s {
+        Sorting::Operates { op, first, second } => {
+            operation_points(op, low, high, first, second)
+        }
+        Sorting::Compares { first, second } => open_operands(low, high, first, second),
+        Sorting::Nothing => Verdict::Passes,
+    }
+}
+
+// The points of an operation on two registers, and of a branch.
+pub fn register_points(
+    op: Operation,
+    rd: usize,
+    low: &Registers,
+    high: &Registers,
+    a: usize,
+    b: usize,
+) -> Verdict
+    ensures { λ r. ⌜ r ≡ verdict (points (cornerView (now (low .entry)) (now (high .entry))) (Register op rd a b)) ⌝ }
+{
+    if rd == 0 {
+        Verdict::Passes
+    } else {
+        operation_points(
+            op,
+            low,
+            high,
+            Operand::InRegister(a),
+            Operand::InRegister(b),
+        )
+    }
+}
+
+pub fn open_points(low: &Registers, high: &Registers, a: usize, b: usize) -> Verdict
+    ensures { λ r. ⌜ r ≡ verdict (operandPoints (cornerView (now (low .entry)) (now (high .entry))) (Compares (InRegister a) (InRegister b))) ⌝ }
+{
+    open_operands(low, high, Operand::InRegister(a), Operand::InRegister(b))
+}
+
+// Points 4 to 9.
+pub fn points(i: Instruction, low: &Registers, high: &Registers) -> Verdict
+    ensures { λ v. ⌜ v ≡ verdict (points (cornerView (now (low .entry)) (now (high .entry))) i) ⌝ }
+{
+    let v = address_points(i, low, high);
+    let Verdict::Passes = v else {
+        return v;
+    };
+    let s = sorting_of(i);
+    operand_points(s, low, high)
 }

@@ -14,14 +14,15 @@ use Rattle.boxes.proofs.Lists.{_∈_}
 use Rattle.boxes.proofs.Choices.{inside-length}
 use Rattle.listing.specs.Group.{Job}
 use Rattle.listing.specs.Listing.{Path, pathOf, listing}
-use Rattle.corners.proofs.Uniform.{Sound}
 use Rattle.paths.proofs.Paths.{listing-ended}
-use Rattle.blocks.specs.Record.{room}
-use Rattle.calls.specs.Call.{Call, Below, boxOf, inOrder, asks, door, jobOf}
+use Rattle.riscu.specs.Limits.{codeWords, memoryWords}
+use Rattle.blocks.specs.Record.{mostInputs}
+use Rattle.calls.specs.Call.{Call, Below, boxOf, inOrder, asks, refusalOf, jobOf}
 use Rattle.calls.specs.declared.Refusal.{Refusal}
 use Rattle.calls.specs.declared.Refusal.the-variants.{Code, Inputs, Order, Memory}
 use Rattle.demands.proofs.Refuses.{Decides, decides}
 use Rattle.demands.proofs.Faithful.{listing-faithful}
+use Rattle.corners.specs.Good.{Sound}
 
 pub both : (t u : Bool) → t && u ≡ true → (t ≡ true) × (u ≡ true)
 both t u = and-eq-true-iff t u .0
@@ -44,22 +45,22 @@ box-length [] = omega arith
 box-length (l ∷ []) = omega arith
 box-length (l ∷ (x ∷ v)) = omega (arith, box-length v)
 
-module _ (memory : List ℕ) (words : ℕ) (c : Call) (e : door memory words c ≡ none) where
+module _ (memory : List ℕ) (words : ℕ) (c : Call) (e : refusalOf memory words c ≡ none) where
   pub accepted-yes : (q : Refusal) → asks memory words c q ≡ true
   accepted-yes = subst (Decides (asks memory words c)) e (decides (asks memory words c))
 
-  pub job-inputs : length (jobOf memory words c .box) ≤ room
+  pub job-inputs : length (jobOf memory words c .box) ≤ mostInputs
   unfolding jobOf asks
   job-inputs =
-      let l = leb-true (length (c .intervals)) (2 * room) (both (eqb (length (c .intervals) % 2) 0) _ (accepted-yes Inputs) .1) in
+      let l = leb-true (length (c .intervals)) (2 * mostInputs) (both (eqb (length (c .intervals) % 2) 0) _ (accepted-yes Inputs) .1) in
       omega (arith, box-length (c .intervals))
 
   pub accepted-sound : Below (2 ^ 64) memory → Below (2 ^ 64) (c .intervals) → Sound (jobOf memory words c) (jobOf memory words c .box)
   unfolding jobOf asks
   accepted-sound m t =
       record {
-        code = leb-true (length (c .code)) 1024 (both (leb 1 (length (c .code))) _ (accepted-yes Code) .1);
-        memory = record { count = eqb-true (length memory) 512 (accepted-yes Memory); words = m };
+        code = leb-true (length (c .code)) codeWords (both (leb 1 (length (c .code))) _ (accepted-yes Code) .1);
+        memory = record { count = eqb-true (length memory) memoryWords (accepted-yes Memory); words = m };
         proper = in-order-proper (boxOf (c .intervals)) (accepted-yes Order);
         inputs = highs-below (2 ^ 64) (c .intervals) (omega arith) t;
       }

@@ -4,7 +4,7 @@ use mathlib.Core.Path.{_≡_, refl, sym, ap, _∙_}
 use mathlib.Core.Bool.{Bool, true, false}
 use mathlib.Core.List.{List, [], _∷_, map, flatMap, List·Memᴰ·head as here}
 use mathlib.Core.Option.{Option, none}
-use Prim.Native.Nat.{ℕ, _+_, _-_, _*_, _/_, min}
+use Prim.Native.Nat.{ℕ, _+_, _-_, _*_, min}
 use native.Mathlib.Omega.{arith}
 use lib.Dec.{leb, ltb}
 use lib.ListN.{length, take, drop, replicate, length-replicate, length-map, length-take, length-drop}
@@ -14,8 +14,10 @@ use Rattle.boxes.specs.Boxes.{Box, Interval}
 use Rattle.boxes.proofs.Lists.{_∈_, map-eq}
 use Rattle.listing.specs.Listing.{Path, listing}
 use Rattle.corners.proofs.Cases.{line, Case, jobOf as caseJob, jobA, table, cases-right}
-use Rattle.blocks.specs.Record.{pathBytes}
-use Rattle.calls.specs.Call.{Call, callOf, boxOf, inOrder, asks, firstNo, door, jobOf, page, replyBy, replyTo}
+use Rattle.riscu.specs.Limits.{memoryWords}
+use Rattle.blocks.specs.Record.{recordBytes}
+use Rattle.blocks.specs.Report.{recordsIn}
+use Rattle.calls.specs.Call.{Call, callOf, boxOf, inOrder, asks, firstNo, refusalOf, jobOf, page, replyBy, replyTo}
 use Rattle.calls.specs.declared.Refusal.{Refusal}
 use Rattle.calls.specs.declared.Answer.{Answer}
 use Rattle.calls.specs.declared.Answer.the-variants.{Page}
@@ -31,10 +33,10 @@ box-of-ends (v ∷ b) = ap (λ (r : Box). v ∷ r) (box-of-ends b)
 
 -- the case as a call for path f, with a report of n paths
 abbrev call : Case → ℕ → ℕ → Call
-call c n f = callOf (c .code) (ends (c .box)) (c .limit) (replicate (pathBytes * n) 0) f
+call c n f = callOf (c .code) (ends (c .box)) (c .limit) (replicate (recordBytes (length (c .box)) * n) 0) f
 
 abbrev memory : List ℕ
-memory = replicate 512 0
+memory = replicate memoryWords 0
 
 abbrev words : ℕ
 words = 8192
@@ -44,14 +46,14 @@ unfolding jobOf
 same-job c n f = rw (box-of-ends (c .box))
 
 -- a report of n paths holds n paths
-report-room : (n : ℕ) → length (replicate {A = ℕ} (pathBytes * n) 0) / pathBytes ≡ n
-report-room n = rw length-replicate (omega arith)
+report-places : (k n : ℕ) → recordsIn k (replicate {A = ℕ} (recordBytes k * n) 0) ≡ n
+report-places k n = rw length-replicate (omega arith)
 
--- what an open door says of a case whose lines are right
-module _ (c : Case) (n f : ℕ) (open-door : door memory words (call c n f) ≡ none) (right : map line (listing (caseJob c)) ≡ c .lines) where
+-- what a case says that passes the questions and whose lines are right
+module _ (c : Case) (n f : ℕ) (passes : refusalOf memory words (call c n f) ≡ none) (right : map line (listing (caseJob c)) ≡ c .lines) where
   page-is : page (jobOf memory words (call c n f)) (call c n f) ≡ take n (drop f (listing (caseJob c)))
   unfolding page
-  page-is = rw (same-job c n f, report-room n)
+  page-is = rw (same-job c n f, report-places (length (c .box)) n)
 
   as-many : length (listing (caseJob c)) ≡ length (c .lines)
   as-many = sym (length-map (listing (caseJob c)) line) ∙ ap length right
@@ -59,7 +61,7 @@ module _ (c : Case) (n f : ℕ) (open-door : door memory words (call c n f) ≡ 
   answer-is : replyTo memory words (call c n f) .answer
       ≡ Page (min n (length (c .lines) - f)) (ltb (f + min n (length (c .lines) - f)) (length (c .lines)))
   unfolding replyTo replyBy
-  answer-is = rw (open-door, page-is, same-job c n f, length-take, length-drop, as-many)
+  answer-is = rw (passes, page-is, same-job c n f, length-take, length-drop, as-many)
 
 -- The whole table, each case on one page: its lines, and no further path.
 
@@ -67,16 +69,16 @@ pub record Answered (c : Case) : Type 0 where
   pub answer : replyTo memory words (call c 64 0) .answer ≡ Page (length (c .lines)) false
   pub lines : map line (page (jobOf memory words (call c 64 0)) (call c 64 0)) ≡ c .lines
 
--- the door is open, and the lines fit
+-- no question is answered no, and the lines fit
 record Ready : Type 0 where
-  door : Option Refusal
+  refusal : Option Refusal
   fits : Bool
 
 abbrev ready : (ℕ × Case) → Ready
-ready x = record { door = door memory words (call (x .1) 64 0); fits = leb (length (x .1 .lines)) 64 }
+ready x = record { refusal = refusalOf memory words (call (x .1) 64 0); fits = leb (length (x .1 .lines)) 64 }
 
 abbrev wanted : (ℕ × Case) → Ready
-wanted x = record { door = none; fits = true }
+wanted x = record { refusal = none; fits = true }
 
 all-ready : map ready table ≡ map wanted table
 unfolding firstNo asks inOrder boxOf flatMap
@@ -86,7 +88,7 @@ pub cases-answered : (x : ℕ × Case) → x ∈ table → Answered (x .1)
 cases-answered x m =
     let c = x .1 in
     let e = map-eq ready wanted table all-ready x m in
-    let o = ap (λ (r : Ready). r .door) e in
+    let o = ap (λ (r : Ready). r .refusal) e in
     let l = leb-true (length (c .lines)) 64 (ap (λ (r : Ready). r .fits) e) in
     let right = cases-right x m in
     let all : take 64 (listing (caseJob c)) ≡ listing (caseJob c) =
@@ -105,12 +107,12 @@ job-a = cases-answered (10, jobA) (here refl)
 abbrev answerA : ℕ → Answer
 answerA f = replyTo memory words (call jobA 1 f) .answer
 
-open-doors : (door memory words (call jobA 1 0) ≡ none) × (door memory words (call jobA 1 1) ≡ none)
-    × (door memory words (call jobA 1 2) ≡ none)
+all-pass : (refusalOf memory words (call jobA 1 0) ≡ none) × (refusalOf memory words (call jobA 1 1) ≡ none)
+    × (refusalOf memory words (call jobA 1 2) ≡ none)
 unfolding firstNo asks inOrder boxOf flatMap
-open-doors = (refl, refl, refl)
+all-pass = (refl, refl, refl)
 
 pub job-a-pages : (answerA 0 ≡ Page 1 true) × (answerA 1 ≡ Page 1 false) × (answerA 2 ≡ Page 0 false)
 job-a-pages =
     let right = cases-right (10, jobA) (here refl) in
-    (answer-is jobA 1 0 (open-doors .0) right, answer-is jobA 1 1 (open-doors .1) right, answer-is jobA 1 2 (open-doors .2) right)
+    (answer-is jobA 1 0 (all-pass .0) right, answer-is jobA 1 1 (all-pass .1) right, answer-is jobA 1 2 (all-pass .2) right)

@@ -11,13 +11,13 @@ use Rattle.boxes.proofs.Divides.{Disjoint}
 use Rattle.listing.specs.Group.{Job, Group}
 use Rattle.listing.specs.Follow.{SamePieces, Before}
 use Rattle.listing.specs.Listing.{Path, listing}
-use Rattle.corners.proofs.Uniform.{Sound}
 use Rattle.corners.proofs.Enough.{none-waits}
 use Rattle.paths.proofs.Paths.{listing-divides}
 use Rattle.paths.proofs.Follow.{Led, listing-led, follow-stays, follow-inside}
 use Rattle.paths.proofs.Order.{listing-ordered, before-one-way}
 use Rattle.calls.specs.Complete.{IsPath, Complete}
 use Rattle.demands.proofs.Faithful.{listing-faithful}
+use Rattle.corners.specs.Good.{Sound}
 
 abbrev pathBox : Path → Box
 pathBox p = p .box

@@ -9,27 +9,27 @@ use native.Mathlib.Omega.{arith}
 use lib.ListN.{length}
 use Rattle.boxes.proofs.Lists.{_∈_}
 use Rattle.listing.specs.Group.{Job}
-use Rattle.corners.proofs.Uniform.{Sound}
 use Rattle.corners.proofs.Enough.{none-waits}
-use Rattle.blocks.specs.Record.{room}
-use Rattle.calls.specs.Call.{Call, Left, isPage, door, jobOf, replyTo, called}
+use Rattle.blocks.specs.Record.{mostInputs}
+use Rattle.calls.specs.Call.{Call, Left, isPage, refusalOf, jobOf, replyTo, called}
 use Rattle.calls.specs.Engine.{Engine, Lent, Leaves, Meets, Exchange, History}
 use Rattle.calls.specs.Refuses.{Refuses}
 use Rattle.calls.specs.Reported.{Reported}
 use Rattle.calls.specs.Together.{Together}
-use Rattle.demands.proofs.Refuses.{refused, accepted, unchanged, page-door}
+use Rattle.demands.proofs.Refuses.{refused, accepted, unchanged, page-passes}
 use Rattle.demands.proofs.Accepted.{accepted-sound, job-inputs, path-inputs, path-registers}
 use Rattle.demands.proofs.Complete.{listing-complete}
 use Rattle.demands.proofs.Reported.{reported}
 use Rattle.demands.proofs.Histories.{exchanges, calls, history-is, memory-kept, table-zero, replies, accepted-fair}
 use Rattle.demands.proofs.Joined.{same-job, join, pages-some}
+use Rattle.corners.specs.Good.{Sound}
 
 -- of what `called` leaves
 
-accepted-door : (memory table : List ℕ) (c : Call) → isPage (called memory table c .reply .answer) ≡ true
-    → door memory (length table) c ≡ none
+accepted-refusal : (memory table : List ℕ) (c : Call) → isPage (called memory table c .reply .answer) ≡ true
+    → refusalOf memory (length table) c ≡ none
 unfolding called replyTo
-accepted-door memory table c e = page-door memory (length table) c (door memory (length table) c) e
+accepted-refusal memory table c e = page-passes memory (length table) c (refusalOf memory (length table) c) e
 
 refuses : (memory table : List ℕ) (c : Call) → Lent memory table c → Refuses memory table c (called memory table c)
 refuses memory table c lent =
@@ -38,7 +38,7 @@ refuses memory table c lent =
       accepted = accepted memory table c;
       unchanged = unchanged memory table c;
       finishes = λ e.
-          let d = accepted-door memory table c e in
+          let d = accepted-refusal memory table c e in
           none-waits (jobOf memory (length table) c)
           (accepted-sound memory (length table) c d (lent .memory-words) (lent .typed .intervals));
     }
@@ -46,7 +46,7 @@ refuses memory table c lent =
 reports : (memory table : List ℕ) (c : Call) → Lent memory table c → isPage (called memory table c .reply .answer) ≡ true
     → Reported (jobOf memory (length table) c) c (called memory table c .reply)
 reports memory table c lent e =
-    let d = accepted-door memory table c e in
+    let d = accepted-refusal memory table c e in
     unfold called in reported memory (length table) c (lent .memory-words) (lent .typed) d
 
 together : (memory table : List ℕ) (cs : List Call) → ((c : Call) → c ∈ cs → Lent memory table c)
@@ -64,8 +64,8 @@ together memory table cs lent =
           let e = same-job memory words c s in
           let sound : Sound (jobOf memory words c) (jobOf memory words c .box) =
           subst (λ (i : Job). Sound i (i .box)) e
-          (accepted-sound memory words (x .call) (f .open-door) (f .memory-words) (f .typed .intervals)) in
-          let room-for = subst (λ (i : Job). length (i .box) ≤ room) e (job-inputs memory words (x .call) (f .open-door)) in
+          (accepted-sound memory words (x .call) (f .passes) (f .memory-words) (f .typed .intervals)) in
+          let few = subst (λ (i : Job). length (i .box) ≤ mostInputs) e (job-inputs memory words (x .call) (f .passes)) in
           let (a, b) = join memory words c
           (λ p i. (omega (arith, path-inputs (jobOf memory words c) sound p i), path-registers (jobOf memory words c) sound p i)) r fair in
           record { paths = a; bytes = b; complete = listing-complete (jobOf memory words c) sound };

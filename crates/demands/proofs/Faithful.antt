@@ -17,13 +17,14 @@ use Rattle.listing.specs.Follow.{follow}
 use Rattle.listing.specs.Listing.{Path, pathOf, listing}
 use Rattle.listing.specs.declared.End.{End}
 use Rattle.listing.specs.declared.End.the-variants.{Exit}
-use Rattle.corners.proofs.Uniform.{Sound, uniform-after}
-use Rattle.corners.proofs.Corner.{Good, good-uniform}
+use Rattle.corners.proofs.Uniform.{uniform-after}
+use Rattle.corners.proofs.Corner.{good-uniform}
 use Rattle.paths.proofs.Stop.{end-stops, smooth-goes-on}
 use Rattle.paths.proofs.Paths.{listing-divides, listing-ended}
 use Rattle.paths.proofs.Follow.{listing-led, follow-stays}
 use Rattle.blocks.specs.Record.{registerOf, exitOf}
 use Rattle.calls.specs.Faithful.{Between, Reached, Runs, EndsAs, Faithful}
+use Rattle.corners.specs.Good.{Sound, Good}
 
 exit-is : (p : Path) → p .end ≡ Exit → exitOf p ≡ registerOf p 10
 exit-is p e = rw e

@@ -10,11 +10,11 @@ use lib.ListN.{length, replicate, length-replicate}
 use Rattle.boxes.specs.Boxes.{keep}
 use Rattle.boxes.proofs.Lists.{_∈_, by-test, keep-mem}
 use Rattle.riscu.proofs.Whole.{words-zero}
-use Rattle.calls.specs.Call.{Call, Left, Below, Typed, isPage, door, replyBy, replyTo, tableBy, called}
+use Rattle.calls.specs.Call.{Call, Left, Below, Typed, isPage, refusalOf, replyBy, replyTo, tableBy, called}
 use Rattle.calls.specs.Engine.{Engine, Lent, Meets, Exchange, History, over, made}
 use Rattle.calls.specs.Together.{memoryAfter, tableAfter, isAccepted, anyAccepted}
 use Rattle.calls.specs.declared.Refusal.{Refusal}
-use Rattle.demands.proofs.Refuses.{page-door}
+use Rattle.demands.proofs.Refuses.{page-passes}
 
 table-length : (table : List ℕ) (o : Option Refusal) → length (tableBy table o) ≡ length table
 unfolding tableBy
@@ -44,7 +44,7 @@ unfolding called
 still-lent memory table c d h =
     record {
       memory-words = h .memory-words;
-      table-words = table-words table (door memory (length table) c) (h .table-words);
+      table-words = table-words table (refusalOf memory (length table) c) (h .table-words);
       typed = h .typed;
     }
 
@@ -65,7 +65,7 @@ module _ (memory : List ℕ) where
   pub memory-kept : (table : List ℕ) (cs : List Call) → memoryAfter memory (exchanges memory table cs) ≡ memory
   unfolding memoryAfter exchanges called
   memory-kept table [] = refl
-  memory-kept table (c ∷ cs) = memory-kept (tableBy table (door memory (length table) c)) cs
+  memory-kept table (c ∷ cs) = memory-kept (tableBy table (refusalOf memory (length table) c)) cs
 
   table-step : (table : List ℕ) (c : Call) (cs : List Call) (o : Option Refusal)
       → (let t = tableBy table o in
@@ -83,7 +83,7 @@ module _ (memory : List ℕ) where
   unfolding tableAfter exchanges called anyAccepted replyTo
   table-zero table [] = refl
   table-zero table (c ∷ cs) =
-      let o = door memory (length table) c in
+      let o = refusalOf memory (length table) c in
       table-step table c cs o (table-zero (tableBy table o) cs)
 
   module _ (words : ℕ) where
@@ -93,7 +93,7 @@ module _ (memory : List ℕ) where
     unfolding exchanges called
     replies table [] e = refl
     replies table (c ∷ cs) e =
-        let o = door memory (length table) c in
+        let o = refusalOf memory (length table) c in
         cc (ap (λ (n : ℕ). replyTo memory n c) e, replies (tableBy table o) cs (table-length table o ∙ e))
 
     reply-is : (table : List ℕ) (cs : List Call) → length table ≡ words → (x : Exchange) → x ∈ exchanges memory table cs
@@ -101,7 +101,7 @@ module _ (memory : List ℕ) where
     unfolding exchanges called
     reply-is table [] e x m = absurd (List·Memᴰ·not-nil m)
     reply-is table (c ∷ cs) e x m =
-        let o = door memory (length table) c in
+        let o = refusalOf memory (length table) c in
         ⊎-elim
         (λ z. rw z (ap (λ (n : ℕ). replyTo memory n c) e, here refl))
         (λ n. let (r, i) = reply-is (tableBy table o) cs (table-length table o ∙ e) x n in (r, there i))
@@ -109,7 +109,7 @@ module _ (memory : List ℕ) where
 
     -- an accepted call with its page
     pub record Fair (x : Exchange) : Type 0 where
-      pub open-door : door memory words (x .call) ≡ none
+      pub passes : refusalOf memory words (x .call) ≡ none
       pub reply-is : x .left .reply ≡ replyBy memory words (x .call) none
       pub memory-words : Below (2 ^ 64) memory
       pub typed : Typed (x .call)
@@ -120,6 +120,6 @@ module _ (memory : List ℕ) where
     accepted-fair table cs e h x m =
         let (n, a) = keep-mem isAccepted (exchanges memory table cs) m in
         let (r, i) = reply-is table cs e x n in
-        let d = page-door memory words (x .call) (door memory words (x .call)) (rw r at a) in
+        let d = page-passes memory words (x .call) (refusalOf memory words (x .call)) (rw r at a) in
         let l = h (x .call) i in
-        record { open-door = d; reply-is = rw d at r; memory-words = l .memory-words; typed = l .typed }
+        record { passes = d; reply-is = rw d at r; memory-words = l .memory-words; typed = l .typed }

@@ -2,7 +2,7 @@
 -- Assumes nothing.
 use mathlib.Core.Path.{_≡_, refl, sym, ap, _∙_}
 use mathlib.Core.List.{List, _++_, append-nil, flatMap, List·Memᴰ·head as here, List·Memᴰ·tail as there}
-use Prim.Native.Nat.{ℕ, _+_, _*_, _/_, _≤_}
+use Prim.Native.Nat.{ℕ, _+_, _*_, _≤_}
 use native.Mathlib.Omega.{arith}
 use lib.Dec.{ltb}
 use lib.ListN.{length, drop, length-take, length-drop}
@@ -12,9 +12,10 @@ use Rattle.boxes.proofs.Lists.{_∈_}
 use Rattle.boxes.proofs.Places.{take-rest, part-mem}
 use Rattle.listing.specs.Group.{Job}
 use Rattle.listing.specs.Listing.{Path, listing}
-use Rattle.blocks.specs.Record.{room, pathBytes, records}
+use Rattle.blocks.specs.Record.{mostInputs, recordBytes, records}
+use Rattle.blocks.specs.Report.{recordsIn}
 use Rattle.blocks.proofs.Reading.{records-append, records-length}
-use Rattle.calls.specs.Call.{Call, written, more, jobOf, page, replyBy}
+use Rattle.calls.specs.Call.{Call, inputsOf, written, more, jobOf, page, replyBy}
 use Rattle.calls.specs.Engine.{Exchange}
 use Rattle.calls.specs.Together.{SameJob, Pages, last, next, bytesWritten}
 use Rattle.demands.proofs.Histories.{Fair}
@@ -27,7 +28,7 @@ module _ (memory : List ℕ) (words : ℕ) (c : Call) where
   unfolding jobOf
   same-job s = cc
 
-  module _ (fits : (p : Path) → p ∈ listing j → (length (p .box) ≤ room) × (length (p .registers) ≡ 32)) where
+  module _ (fits : (p : Path) → p ∈ listing j → (length (p .box) ≤ mostInputs) × (length (p .registers) ≡ 32)) where
     module _ (x : Exchange) (f : Fair memory words x) (s : SameJob (x .call) c) where
       abbrev ps : List Path
       ps = page j (x .call)
@@ -43,15 +44,15 @@ module _ (memory : List ℕ) (words : ℕ) (c : Call) where
       bytes-are : bytesWritten x ≡ records (x .call .first) ps
       unfolding replyBy
       bytes-are =
-          let r : x .left .reply .report ≡ records (x .call .first) ps ++ drop (pathBytes * length ps) (x .call .report) =
+          let r : x .left .reply .report ≡ records (x .call .first) ps ++ drop (recordBytes (inputsOf (x .call)) * length ps) (x .call .report) =
           rw (f .reply-is, same-job s) in
-          let l : length (records (x .call .first) ps) ≡ pathBytes * length ps =
-          records-length (x .call .first) ps (λ p m. fits p (page-mem p m)) in
+          let l : length (records (x .call .first) ps) ≡ recordBytes (inputsOf (x .call)) * length ps =
+          records-length (inputsOf (x .call)) (x .call .first) ps (λ p m. fits p (page-mem p m)) in
           rw (written-is, r)
-          (take-at (records (x .call .first) ps) (drop (pathBytes * length ps) (x .call .report)) (pathBytes * length ps) l)
+          (take-at (records (x .call .first) ps) (drop (recordBytes (inputsOf (x .call)) * length ps) (x .call .report)) (recordBytes (inputsOf (x .call)) * length ps) l)
         where
           page-mem : (p : Path) → p ∈ ps → p ∈ listing j
-          page-mem p m = unfold page in part-mem (length (x .call .report) / pathBytes) (x .call .first) (listing j) m
+          page-mem p m = unfold page in part-mem (recordsIn (inputsOf (x .call)) (x .call .report)) (x .call .first) (listing j) m
 
     -- the pages from path n on
     abbrev FromOn : ℕ → List Exchange → Type 0
@@ -61,7 +62,7 @@ module _ (memory : List ℕ) (words : ℕ) (c : Call) where
     unfolding flatMap page
     join (last {n} {x} s e m) h =
         let f = h x (here refl) in
-        let k = length (x .call .report) / pathBytes in
+        let k = recordsIn (inputsOf (x .call)) (x .call .report) in
         let l = ltb-false (x .call .first + length (page j (x .call))) (length (listing j)) (sym (more-is x f s) ∙ m) in
         let z : page j (x .call) ≡ drop n (listing j) =
         rw (← e) (take-all k (drop (x .call .first) (listing j))
@@ -69,7 +70,7 @@ module _ (memory : List ℕ) (words : ℕ) (c : Call) where
         (append-nil (page j (x .call)) ∙ z, append-nil (bytesWritten x) ∙ bytes-are x f s ∙ cc (z, e))
     join (next {n} {x} {xs} s e r) h =
         let f = h x (here refl) in
-        let k = length (x .call .report) / pathBytes in
+        let k = recordsIn (inputsOf (x .call)) (x .call .report) in
         let ps = page j (x .call) in
         let w = written-is x f s in
         let (a, b) = join r (λ u m. h u (there m)) in

@@ -10,7 +10,7 @@ use native.Mathlib.Omega.{arith}
 use native.Mathlib.Decide.{ℕ-discrete, decLt}
 use lib.ListN.{length, getD}
 use Rattle.boxes.proofs.Lists.{by-test}
-use Rattle.calls.specs.Call.{Call, number, written, more, isPage, asks, questions, firstNo, door, replyBy, replyTo, tableBy, called}
+use Rattle.calls.specs.Call.{Call, number, written, more, isPage, asks, questions, firstNo, refusalOf, replyBy, replyTo, tableBy, called}
 use Rattle.calls.specs.Refuses.{FirstNo, Unchanged}
 use Rattle.calls.specs.declared.Refusal.{Refusal}
 use Rattle.calls.specs.declared.Refusal.the-variants.{Code, Inputs, Order, Limit, Table, Memory, Report, First}
@@ -62,11 +62,11 @@ module _ (answer : Refusal → Bool) where
   pub decides : Decides (firstNo answer questions)
   decides = decides-from 1 questions questions-numbered (λ q l. absurd (omega (arith, question-number q .1)))
 
--- a page comes only through the door
-pub page-door : (memory : List ℕ) (words : ℕ) (c : Call) (o : Option Refusal) → isPage (replyBy memory words c o .answer) ≡ true → o ≡ none
+-- a page comes only where no question is answered no
+pub page-passes : (memory : List ℕ) (words : ℕ) (c : Call) (o : Option Refusal) → isPage (replyBy memory words c o .answer) ≡ true → o ≡ none
 unfolding replyBy isPage
-page-door memory words c none e = refl
-page-door memory words c (some r) e = absurd (true≢false (sym e))
+page-passes memory words c none e = refl
+page-passes memory words c (some r) e = absurd (true≢false (sym e))
 
 module _ (memory table : List ℕ) (c : Call) where
   abbrev words : ℕ
@@ -106,12 +106,12 @@ module _ (memory table : List ℕ) (c : Call) where
 
   pub refused : (r : Refusal) → (called memory table c .reply .answer ≡ Refused r) ↔ FirstNo memory words c r
   unfolding called replyTo
-  refused r = refused-by r (door memory words c) (decides (asks memory words c))
+  refused r = refused-by r (refusalOf memory words c) (decides (asks memory words c))
 
   pub accepted : (isPage (called memory table c .reply .answer) ≡ true) ↔ ((q : Refusal) → asks memory words c q ≡ true)
   unfolding called replyTo
-  accepted = accepted-by (door memory words c) (decides (asks memory words c))
+  accepted = accepted-by (refusalOf memory words c) (decides (asks memory words c))
 
   pub unchanged : (r : Refusal) → called memory table c .reply .answer ≡ Refused r → Unchanged memory table c (called memory table c)
   unfolding called replyTo
-  unchanged r e = unchanged-by r (door memory words c) e
+  unchanged r e = unchanged-by r (refusalOf memory words c) e

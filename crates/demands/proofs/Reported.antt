@@ -3,7 +3,7 @@
 use mathlib.Core.Path.{_≡_, refl}
 use mathlib.Core.List.{List, _++_}
 use mathlib.Core.Option.{none}
-use Prim.Native.Nat.{ℕ, _+_, _-_, _*_, _/_, _^_, _≤_, _<_, min}
+use Prim.Native.Nat.{ℕ, _+_, _-_, _*_, _^_, _≤_, _<_, min}
 use native.Mathlib.Omega.{arith}
 use lib.ListN.{length, drop, length-append, length-take, length-drop}
 use lib.Seq.{take-append-le, drop-append-le, drop-at}
@@ -12,17 +12,19 @@ use Rattle.boxes.proofs.Lists.{_∈_}
 use Rattle.boxes.proofs.Places.{place-mem, place-exists, place-take, place-drop, part-mem}
 use Rattle.listing.specs.Group.{Job}
 use Rattle.listing.specs.Listing.{Path, listing}
-use Rattle.corners.proofs.Uniform.{Sound}
-use Rattle.blocks.specs.Record.{room, pathBytes, recordOf, records}
+use Rattle.blocks.specs.Record.{mostInputs, recordBytes, recordOf, records}
+use Rattle.blocks.specs.Report.{recordsIn, recordAt}
 use Rattle.blocks.proofs.Reading.{records-length, records-at, record-tells}
-use Rattle.calls.specs.Call.{Call, Below, Typed, written, more, asks, door, jobOf, page, replyBy, replyTo}
-use Rattle.calls.specs.Reported.{recordAt, Told, Reported}
+use Rattle.calls.specs.Call.{Call, inputsOf, Below, Typed, written, more, asks, refusalOf, jobOf, page, replyBy, replyTo}
+use Rattle.calls.specs.Limits.{firstEnd}
+use Rattle.calls.specs.Reported.{Told, Reported}
 use Rattle.calls.specs.declared.Refusal.the-variants.{First}
 use Rattle.demands.proofs.Accepted.{accepted-yes, accepted-sound, job-inputs, path-inputs, path-registers}
 use Rattle.demands.proofs.Faithful.{listing-faithful}
 use Rattle.demands.proofs.Words.{path-fits}
+use Rattle.corners.specs.Good.{Sound}
 
-module _ (memory : List ℕ) (words : ℕ) (c : Call) (bounded : Below (2 ^ 64) memory) (typed : Typed c) (e : door memory words c ≡ none) where
+module _ (memory : List ℕ) (words : ℕ) (c : Call) (bounded : Below (2 ^ 64) memory) (typed : Typed c) (e : refusalOf memory words c ≡ none) where
   abbrev j : Job
   j = jobOf memory words c
 
@@ -34,42 +36,42 @@ module _ (memory : List ℕ) (words : ℕ) (c : Call) (bounded : Below (2 ^ 64) 
 
   page-mem : (p : Path) → p ∈ ps → p ∈ listing j
   unfolding page
-  page-mem p m = part-mem (length (c .report) / pathBytes) (c .first) (listing j) m
+  page-mem p m = part-mem (recordsIn (inputsOf c) (c .report)) (c .first) (listing j) m
 
-  fits : (p : Path) → p ∈ ps → (length (p .box) ≤ room) × (length (p .registers) ≡ 32)
+  fits : (p : Path) → p ∈ ps → (length (p .box) ≤ mostInputs) × (length (p .registers) ≡ 32)
   fits p m =
       let i = page-mem p m in
       (omega (arith, path-inputs j sound p i, job-inputs memory words c e), path-registers j sound p i)
 
-  page-length : length ps ≡ min (length (c .report) / pathBytes) (length (listing j) - c .first)
+  page-length : length ps ≡ min (recordsIn (inputsOf c) (c .report)) (length (listing j) - c .first)
   unfolding page
   page-length = rw (length-take, length-drop)
 
-  bytes-length : length (records (c .first) ps) ≡ pathBytes * length ps
-  bytes-length = records-length (c .first) ps fits
+  bytes-length : length (records (c .first) ps) ≡ recordBytes (inputsOf c) * length ps
+  bytes-length = records-length (inputsOf c) (c .first) ps fits
 
   limit-word : j .limit < 2 ^ 64
   unfolding jobOf
   limit-word = typed .limit
 
-  told : (i : ℕ) → i < length ps → Told j (c .first + i) (recordAt (records (c .first) ps ++ drop (pathBytes * length ps) (c .report)) i)
+  told : (i : ℕ) → i < length ps → Told j (c .first + i) (recordAt (inputsOf c) (records (c .first) ps ++ drop (recordBytes (inputsOf c) * length ps) (c .report)) i)
   unfolding page asks
   told i l =
       let (p, z) = place-exists ps i l in
       let m = place-mem ps i z in
       let q = page-mem p m in
-      let first = ltb-true (c .first) (2 ^ 32) (accepted-yes memory words c e First) in
+      let first = ltb-true (c .first) firstEnd (accepted-yes memory words c e First) in
       let n : c .first + i < 2 ^ 64 = omega (arith, page-length, typed .bytes) in
-      let r : recordAt (records (c .first) ps ++ drop (pathBytes * length ps) (c .report)) i ≡ recordOf (c .first + i) p =
+      let r : recordAt (inputsOf c) (records (c .first) ps ++ drop (recordBytes (inputsOf c) * length ps) (c .report)) i ≡ recordOf (c .first + i) p =
       rw (
-        drop-append-le (pathBytes * i) (records (c .first) ps) (drop (pathBytes * length ps) (c .report)) (omega (arith, bytes-length)),
-        take-append-le pathBytes (drop (pathBytes * i) (records (c .first) ps)) (drop (pathBytes * length ps) (c .report))
+        drop-append-le (recordBytes (inputsOf c) * i) (records (c .first) ps) (drop (recordBytes (inputsOf c) * length ps) (c .report)) (omega (arith, bytes-length)),
+        take-append-le (recordBytes (inputsOf c)) (drop (recordBytes (inputsOf c) * i) (records (c .first) ps)) (drop (recordBytes (inputsOf c) * length ps) (c .report))
             (rw length-drop (omega (arith, bytes-length))),
       )
-      (records-at (c .first) ps fits i p z) in
+      (records-at (inputsOf c) (c .first) ps fits i p z) in
       record {
         path = p;
-        listed = place-drop (c .first) (listing j) i (place-take (length (c .report) / pathBytes) (drop (c .first) (listing j)) i z);
+        listed = place-drop (c .first) (listing j) i (place-take (recordsIn (inputsOf c) (c .report)) (drop (c .first) (listing j)) i z);
         tells = rw r (record-tells (c .first + i) p (path-fits j sound limit-word p q (job-inputs memory words c e) (c .first + i) n));
         faithful = listing-faithful j sound p q;
       }
@@ -83,6 +85,6 @@ module _ (memory : List ℕ) (words : ℕ) (c : Call) (bounded : Below (2 ^ 64) 
         count = page-length;
         further = refl;
         records = told;
-        rest = drop-at (records (c .first) ps) (drop (pathBytes * length ps) (c .report)) (pathBytes * length ps) bytes-length;
+        rest = drop-at (records (c .first) ps) (drop (recordBytes (inputsOf c) * length ps) (c .report)) (recordBytes (inputsOf c) * length ps) bytes-length;
         size = rw (length-append, length-drop) (omega (arith, bytes-length, page-length));
       }

@@ -19,14 +19,15 @@ use Rattle.listing.specs.declared.Reason.the-variants.{BothOpen, Multiplier, Di
 use Rattle.listing.specs.declared.End.{End}
 use Rattle.listing.specs.declared.End.the-variants.{Exit, DivisionByZero, BadPc, BadWord, BadAddress, BadCall, StepLimit, NotFollowed}
 use Rattle.listing.specs.declared.End.the-variants.{TraceFull}
-use Rattle.corners.proofs.Uniform.{Sound, whole-after}
+use Rattle.corners.proofs.Uniform.{whole-after}
 use Rattle.corners.proofs.Enough.{listing-steps}
-use Rattle.blocks.specs.Record.{room, padded, registerOf, exitWord, ends, firstWords, secondWords}
+use Rattle.blocks.specs.Record.{mostInputs, padded, registerOf, exitWord, ends, firstWords, secondWords}
 use Rattle.blocks.proofs.Bytes.{getD-padded}
 use Rattle.blocks.proofs.Reading.{Words, Fits}
 use Rattle.calls.specs.Faithful.{Faithful}
 use Rattle.demands.proofs.Faithful.{listing-faithful}
 use Rattle.demands.proofs.Accepted.{path-inputs, path-registers}
+use Rattle.corners.specs.Good.{Sound}
 
 -- small numbers
 
@@ -90,7 +91,7 @@ append-words (x ∷ xs) ys h g (suc k) = append-words xs ys (λ i. h (suc i)) g 
 infixr 40 _padded-then_
 _padded-then_ : {ws l : List ℕ} → AllWords ws → AllWords l → AllWords (padded ws ++ l)
 _padded-then_ {ws} {l} h g =
-    record { words = append-words (padded ws) l (λ k. rw (getD-padded ws (room - length ws) k) (h .words k)) (g .words) }
+    record { words = append-words (padded ws) l (λ k. rw (getD-padded ws (mostInputs - length ws) k) (h .words k)) (g .words) }
 
 words-ends : (vs : List Interval) → ((i : ℕ) → Small (getD vs i (0 ⋯ 0))) → AllWords (ends vs)
 unfolding flatMap
@@ -131,11 +132,11 @@ module _ (j : Job) (sound : Sound j (j .box)) (limit : j .limit < 2 ^ 64) (p : P
       let h = run-reads (j .code) c (sound .code) (start (j .memory)) (omega arith) (p .steps) in
       omega (arith, faithful .runs c (faithful .lowest) .reads)
 
-  pub path-fits : length (j .box) ≤ room → (n : ℕ) → n < 2 ^ 64 → Fits n p
+  pub path-fits : length (j .box) ≤ mostInputs → (n : ℕ) → n < 2 ^ 64 → Fits n p
   unfolding firstWords secondWords
   path-fits r n l =
       let s : p .steps < 2 ^ 64 = omega (arith, listing-steps j sound p m) in
-      let i : length (p .box) ≤ room = omega (arith, path-inputs j sound p m) in
+      let i : length (p .box) ≤ mostInputs = omega (arith, path-inputs j sound p m) in
       let t : length (p .box) < 2 ^ 64 = omega arith in
       let u : p .reads < 2 ^ 64 = omega (arith, reads-small) in
       let (reason, exit) = end-small (p .end) (registerOf p 10) (register-small 10) in

@@ -1,9 +1,9 @@
--- A call that passed the questions at the door: what its exploration begins with, and that what it leaves is what document 01 says.
+-- A call that passed the questions: what its exploration begins with, and that what it leaves is what document 01 says.
 -- Assumes nothing.
 use mathlib.Core.Path.{_≡_, refl, sym, ap, _∙_}
 use mathlib.Core.Bool.{true}
 use mathlib.Core.List.{List, [], _∷_}
-use mathlib.Core.Option.{Option, none, some}
+use mathlib.Core.Option.{none, some}
 use Prim.Native.Nat.{ℕ, zero, suc, _+_, _-_, _*_, _/_, _%_, _^_, _≤_, _<_}
 use native.Mathlib.Nat.{zero-add, div-mul-le-self}
 use native.Mathlib.Omega.{arith}
@@ -15,14 +15,14 @@ use Rattle.boxes.specs.Boxes.{_⋯_, from}
 use Rattle.boxes.specs.Cuts.{boxIn}
 use Rattle.boxes.proofs.Lists.{length-from, from-at}
 use Rattle.boxes.proofs.TwoLists.{length-in, at-in}
-use Rattle.blocks.specs.Record.{room, pathBytes}
-use Rattle.calls.specs.Call.{Call, callOf, Below, boxOf, asks, door, jobOf, replyBy, replyTo, tableBy, left, called}
+use Rattle.blocks.specs.Record.{mostInputs, recordBytes}
+use Rattle.calls.specs.Call.{Call, callOf, Below, boxOf, asks, refusalOf, jobOf, replyBy, replyTo, tableBy, left, called}
 use Rattle.calls.specs.declared.Refusal.{Refusal}
 use Rattle.calls.specs.declared.Refusal.the-variants.{Inputs, Limit, Memory, Report, First}
 use Rattle.calls.specs.declared.Answer.the-variants.{Refused, Page}
-use Rattle.calls.specs.Door.{doorAs}
-use Rattle.calls.specs.declared.Door.the-variants.{Open, Closed}
 use Rattle.demands.proofs.Accepted.{both, accepted-yes, accepted-sound}
+use Rattle.riscu.specs.Limits.{memoryWords}
+use Rattle.calls.specs.Limits.{mostSteps, entryWords, firstEnd}
 use Rattle.decide.specs.declared.Limits.{Limits}
 use Rattle.explorer.specs.Held.{jobIn}
 use Rattle.explorer.specs.Finished.{endsOf, Begins, Finished}
@@ -47,14 +47,14 @@ pair-at (l ∷ (x ∷ v)) (suc i) h =
     let b : 2 * suc i + 1 ≡ suc (suc (2 * i + 1)) = omega arith in
     rw (a, b) (pair-at v i (omega arith))
 
-pub ends-length : (side : ℕ) (v : List ℕ) → length (endsOf side v) ≡ room
-ends-length side v = length-map (from 0 room) _ ∙ length-from room 0
+pub ends-length : (side : ℕ) (v : List ℕ) → length (endsOf side v) ≡ mostInputs
+ends-length side v = length-map (from 0 mostInputs) _ ∙ length-from mostInputs 0
 
-ends-at : (side : ℕ) (v : List ℕ) (n i : ℕ) → i < n → n ≤ room → getD (take n (endsOf side v)) i 0 ≡ getD v (2 * i + side) 0
+ends-at : (side : ℕ) (v : List ℕ) (n i : ℕ) → i < n → n ≤ mostInputs → getD (take n (endsOf side v)) i 0 ≡ getD v (2 * i + side) 0
 ends-at side v n i h l =
-    getD-take n (endsOf side v) i 0 h ∙ from-at (λ k. getD v (2 * k + side) 0) 0 room 0 i (omega arith) ∙ rw zero-add
+    getD-take n (endsOf side v) i 0 h ∙ from-at (λ k. getD v (2 * k + side) 0) 0 mostInputs 0 i (omega arith) ∙ rw zero-add
 
-module _ (v : List ℕ) (even : length v % 2 ≡ 0) (few : length v ≤ 2 * room) where
+module _ (v : List ℕ) (even : length v % 2 ≡ 0) (few : length v ≤ 2 * mostInputs) where
   abbrev n : ℕ
   n = length v / 2
 
@@ -73,32 +73,32 @@ module _ (v : List ℕ) (even : length v % 2 ≡ 0) (few : length v ≤ 2 * room
       ∙ sym (pair-at v i (omega arith)))
 
 module _ (code memory intervals table report : List ℕ) (limit first : ℕ)
-    (d : door memory (length table) (callOf code intervals limit report first) ≡ none) where
+    (d : refusalOf memory (length table) (callOf code intervals limit report first) ≡ none) where
   abbrev call : Call
   call = callOf code intervals limit report first
 
   abbrev limits : Limits
-  limits = record { steps = limit; entries = length table / 8; inputs = length intervals / 2 }
+  limits = record { steps = limit; entries = length table / entryWords; inputs = length intervals / 2 }
 
   abbrev window : Window
-  window = record { first = first; end = first + length report / pathBytes }
+  window = record { first = first; end = first + length report / recordBytes (length intervals / 2) }
 
   yes : (q : Refusal) → asks memory (length table) call q ≡ true
   yes = accepted-yes memory (length table) call d
 
-  pub memory-count : length memory ≡ 512
+  pub memory-count : length memory ≡ memoryWords
   unfolding asks
-  memory-count = eqb-true (length memory) 512 (yes Memory)
+  memory-count = eqb-true (length memory) memoryWords (yes Memory)
 
   evens : length intervals % 2 ≡ 0
   unfolding asks
   evens = eqb-true (length intervals % 2) 0 (both (eqb (length intervals % 2) 0) _ (yes Inputs) .0)
 
-  inputs-few : length intervals ≤ 2 * room
+  inputs-few : length intervals ≤ 2 * mostInputs
   unfolding asks
-  inputs-few = leb-true (length intervals) (2 * room) (both (eqb (length intervals % 2) 0) _ (yes Inputs) .1)
+  inputs-few = leb-true (length intervals) (2 * mostInputs) (both (eqb (length intervals % 2) 0) _ (yes Inputs) .1)
 
-  pub some-inputs : length intervals / 2 ≤ room
+  pub some-inputs : length intervals / 2 ≤ mostInputs
   some-inputs = omega (arith, inputs-few)
 
   -- the first of the ends are those of the inputs
@@ -109,31 +109,35 @@ module _ (code memory intervals table report : List ℕ) (limit first : ℕ)
     pub prefix-length : length intervals / 2 ≡ length (take (length intervals / 2) l)
     prefix-length = rw e (sym (taken intervals evens inputs-few side))
 
-  limit-small : limit ≤ 65536
+  limit-small : limit ≤ mostSteps
   unfolding asks
-  limit-small = leb-true limit 65536 (both (leb 1 limit) _ (yes Limit) .1)
+  limit-small = leb-true limit mostSteps (both (leb 1 limit) _ (yes Limit) .1)
 
-  pages-some : 1 ≤ length report / pathBytes
+  pages-some : 1 ≤ length report / recordBytes (length intervals / 2)
   unfolding asks
   pages-some =
-      let (a, b) = both (eqb (length report % pathBytes) 0) _ (yes Report) in
-      omega (arith, eqb-true (length report % pathBytes) 0 a, leb-true 1 (length report) b)
+      let (a, b) = both (eqb (length report % recordBytes (length intervals / 2)) 0) _ (yes Report) in
+      omega (arith, eqb-true (length report % recordBytes (length intervals / 2)) 0 a, leb-true 1 (length report) b)
 
-  pub end-small : length report < 2 ^ 64 → first + length report / pathBytes < 2 ^ 64
+  pub end-small : length report < 2 ^ 64 → first + length report / recordBytes (length intervals / 2) < 2 ^ 64
   unfolding asks
-  end-small l = omega (arith, ltb-true first (2 ^ 32) (yes First))
+  end-small l = omega (arith, ltb-true first firstEnd (yes First))
 
   pub call-begins : Below (2 ^ 64) memory → Below (2 ^ 64) intervals → length report < 2 ^ 64
       → Begins (jobIn code memory intervals limits) limits window (take (length intervals / 2) (endsOf 0 intervals))
       (take (length intervals / 2) (endsOf 1 intervals)) table report
   unfolding jobOf
   call-begins m i r = record {
-    sound = accepted-sound memory (length table) call d m i;
+    fits = record {
+      sound = accepted-sound memory (length table) call d m i;
+      limit = refl;
+      entries = refl;
+      paired = taken intervals evens inputs-few 0 ∙ sym (taken intervals evens inputs-few 1);
+      inputs = taken intervals evens inputs-few 0;
+      table-fits = omega (arith, div-mul-le-self (length table) entryWords);
+    };
     box = box-is intervals evens inputs-few;
-    paired = taken intervals evens inputs-few 0 ∙ sym (taken intervals evens inputs-few 1);
-    inputs = taken intervals evens inputs-few 0;
     few = some-inputs;
-    room = omega (arith, div-mul-le-self (length table) 8);
     some = pages-some;
     end = refl;
     end-fits = end-small r;
@@ -145,17 +149,7 @@ module _ (code memory intervals table report : List ℕ) (limit first : ℕ)
   unfolding called replyTo replyBy tableBy jobOf
   call-leaves written s f = rw (d, f .count, f .more, f .bytes)
 
--- the door, as the code asks it
-
-pub door-open : (o : Option Refusal) → Open ≡ doorAs o → o ≡ none
-door-open none e = refl
-door-open (some r) e = let z : _≡_ {A = ℕ} 0 1 = cc in absurd (omega arith)
-
-pub door-closed : {r : Refusal} (o : Option Refusal) → Closed r ≡ doorAs o → o ≡ some r
-door-closed none e = let z : _≡_ {A = ℕ} 0 1 = cc in absurd (omega arith)
-door-closed (some q) e = cc
-
-pub refused-leaves : {r : Refusal} (memory table : List ℕ) (c : Call) → door memory (length table) c ≡ some r
+pub refused-leaves : {r : Refusal} (memory table : List ℕ) (c : Call) → refusalOf memory (length table) c ≡ some r
     → left (Refused r) (c .report) table memory ≡ called memory table c
 unfolding called replyTo replyBy tableBy
 refused-leaves memory table c e = rw e

@@ -10,16 +10,15 @@ use lib.Seq.{take-at}
 use Rattle.listing.specs.Group.{Job}
 use Rattle.listing.specs.Listing.{Path, pathOf, listing}
 use Rattle.listing.specs.declared.End.{End}
-use Rattle.corners.proofs.Corner.{cornersOf}
 use Rattle.forks.specs.Turn.{running, resting, Turn, ending, stateOf}
 use Rattle.forks.proofs.Positions.{reached-moves, paths-first}
-use Rattle.decide.specs.Corner.{decision}
 use Rattle.decide.proofs.Says.{says-ended}
 use Rattle.decide.specs.declared.Limits.{Limits}
 use Rattle.decide.specs.declared.Decision.the-variants.{Ended}
-use Rattle.explorer.specs.Held.{Lists, groupOf, forksOf, usedOf, Held, ended, listed, work}
+use Rattle.explorer.specs.Held.{Lists, groupOf, forksOf, decisionOn, Held, ended, listed, work}
 use Rattle.explorer.specs.declared.Standing.{Standing}
-use Rattle.explorer.proofs.Stands.{stands, turned, lighter, work-running, work-resting}
+use Rattle.explorer.proofs.Stands.{not-both, stands, turned, lighter, work-running, work-resting}
+use Rattle.corners.specs.Good.{cornersOf}
 
 -- the paths of an engine between two groups are the first of the listing
 pub first-paths : (j : Job) {ps : List Path} (n : ℕ) → n ≡ length ps → (rest : List Path) × (listing j ≡ ps ++ rest)
@@ -27,7 +26,7 @@ pub first-paths : (j : Job) {ps : List Path} (n : ℕ) → n ≡ length ps → (
 first-paths j {ps} n e (rest, d) = ap (take n) d ∙ take-at ps rest n (sym e)
 
 module _ {j : Job} {m : Limits} {x : Lists} {s : Standing} (h : Held j m (listed j s) x s) (e : s .running ≡ true) {end : End}
-    (d : decision (j .code) m (usedOf s) (s .at .low) (x .low) (x .high) ≡ Ended end) where
+    (d : decisionOn (j .code) m x s ≡ Ended end) where
   -- the path that ends here
   abbrev pub here : Path
   here = pathOf (groupOf x s) (cornersOf j (groupOf x s)) end
@@ -41,19 +40,14 @@ module _ {j : Job} {m : Limits} {x : Lists} {s : Standing} (h : Held j m (listed
   pub listed-ended : listed j (ended s) ≡ listed j s ++ (here ∷ [])
   unfolding stateOf
   listed-ended =
-      let (n, q) = reached-moves (h .sound) (turned h e turn) in
-      first-paths j (s .paths + 1) more-paths (paths-first j (h .sound) n q .0)
+      let (n, q) = reached-moves (h .fits .sound) (turned h e turn) in
+      first-paths j (s .paths + 1) more-paths (paths-first j (h .fits .sound) n q .0)
 
   pub held-ended : Held j m (listed j (ended s)) x (ended s)
   held-ended = rw listed-ended (record {
-    sound = h .sound;
+    fits = h .fits;
     reached = turned h e turn;
-    corners = λ z. let u : _≡_ {A = ℕ} 0 1 = cc in absurd (omega arith);
-    limit = h .limit;
-    entries = h .entries;
-    paired = h .paired;
-    inputs = h .inputs;
-    room = h .room;
+    corners = not-both refl;
     count = more-paths;
   })
 

@@ -18,105 +18,94 @@ use Rattle.riscu.specs.declared.Instruction.{Instruction}
 use Rattle.listing.specs.Group.{Job}
 use Rattle.listing.specs.Listing.{Path, pathOf, listing}
 use Rattle.listing.specs.declared.End.{End}
-use Rattle.blocks.specs.Record.{room, pathBytes, recordOf, records}
+use Rattle.blocks.specs.Record.{mostInputs, recordBytes, recordOf, records}
 use Rattle.blocks.proofs.Reading.{record-length, records-append}
 use Rattle.forks.specs.Stack.{Fork}
-use Rattle.decide.specs.Corner.{decision}
 use Rattle.decide.specs.declared.Limits.{Limits}
 use Rattle.decide.specs.declared.Decision.the-variants.{Ended, Steps}
-use Rattle.lockstep.specs.Together.{advanced}
-use Rattle.explorer.specs.Held.{Lists, moved, usedOf, latest, listed, cornersIn, Held, lists, stepped, dropped, ended, work}
-use Rattle.explorer.specs.Explored.{leasts, greatests, endedPath, withPath, filled, Stopped, Explored, halted}
+use Rattle.lockstep.specs.Together.{Machines, both, advanced}
+use Rattle.explorer.specs.Held.{Lists, lists, moved, latest, listed, cornersIn, decisionOn, Held, stepped, dropped, ended, work, GoesOn}
+use Rattle.explorer.specs.Explored.{leasts, greatests, endedPath, pageWith, filled, Stopped, Explored, Going, Turned, halted}
 use Rattle.explorer.specs.declared.Standing.{Standing}
 use Rattle.explorer.specs.declared.Window.{Window}
 use Rattle.explorer.proofs.Straight.{held-straight, work-straight}
-use Rattle.explorer.proofs.Stands.{work-resting}
+use Rattle.explorer.proofs.Stands.{not-both, work-resting}
 use Rattle.explorer.proofs.Resuming.{held-dropped, work-dropped}
-use Rattle.explorer.proofs.Ending.{here, listed-ended, held-ended}
+use Rattle.explorer.proofs.Ending.{here, listed-ended, held-ended, work-ended}
 
 -- a turn that ends no path
 pub explored-moved : {j : Job} {m : Limits} {w : Window} {x : Lists} {report : List ℕ} {s : Standing} → Explored j m w x report s
-    → (y : Lists) (r : Standing) → Held j m (listed j s) y r → r .paths ≡ s .paths → r .going ≡ true
-    → (r .running ≡ true → s .paths < w .end) → Explored j m w y report r
-explored-moved {j} {m} {w} {report = report} {s = s} e y r h p g l =
+    → (y : Lists) (r : Standing) → GoesOn j m x s y r → (r .running ≡ true → s .paths < w .end) → Turned j m w x report s y report r
+explored-moved {j} {m} {w} {report = report} {s = s} e y r g l =
     record {
-      held = subst (λ (n : ℕ). Held j m (take n (listing j)) y r) (sym p) h;
-      written = subst (λ (n : ℕ). take (pathBytes * (n - w .first)) report ≡ records (w .first) (drop (w .first) (take n (listing j))))
-          (sym p) (e .written);
-      within = omega (arith, e .within);
-      before = λ z. omega (arith, l z);
-      space = e .space;
-      few = e .few;
-      some = e .some;
-      end-fits = e .end-fits;
-      steps-fit = e .steps-fit;
-      stopped = λ z. let u : _≡_ {A = ℕ} 0 1 = cc in absurd (omega arith);
+      explored = record {
+        held = subst (λ (n : ℕ). Held j m (take n (listing j)) y r) (sym (g .paths)) (g .held);
+        paged = e .paged;
+        written = subst (λ (n : ℕ). take (recordBytes (m .inputs) * (n - w .first)) report ≡ records (w .first) (drop (w .first) (take n (listing j))))
+            (sym (g .paths)) (e .written);
+        within = omega (arith, e .within, g .paths);
+        before = λ z. omega (arith, l z, g .paths);
+        stopped = λ z. not-both z (g .going);
+      };
+      less = g .less;
+      paths = omega (arith, g .paths);
+      kept = refl;
     }
 
 -- a turn that goes straight on
-pub explored-straight : {j : Job} {m : Limits} {w : Window} {x : Lists} {report : List ℕ} {s : Standing} → Explored j m w x report s
-    → s .running ≡ true → s .going ≡ true
-    → (i : Instruction) → decision (j .code) m (usedOf s) (s .at .low) (x .low) (x .high) ≡ Steps i
-    → (l c h o t v : List ℕ) (r : Standing) → r ≡ stepped m s i (r .at)
-    → cornersIn (moved x l c h o t v) (r .at) ≡ advanced (x .lows) (x .highs) i (cornersIn x (s .at))
-    → Explored j m w (moved x l c h o t v) report r × (work j (moved x l c h o t v) r < work j x s)
-explored-straight {j} {m} {w} {x} {report} {s} e r g i d l c h o t v z q k =
-    let y = moved x l c h o t v in
-    subst (λ (u : Standing). Explored j m w y report u × (work j y u < work j x s)) (sym q) (
-      explored-moved e y (stepped m s i (z .at)) (held-straight (e .held) r i d l c h o t v (z .at) k) refl refl (λ _. e .before r),
-      work-straight (e .held) r i d l c h o t v (z .at) g,
-    )
+pub explored-straight : {j : Job} {m : Limits} {w : Window} {x : Lists} {report : List ℕ} {s : Standing} → Going j m w x report s
+    → s .running ≡ true
+    → (i : Instruction) → decisionOn (j .code) m x s ≡ Steps i → (y : Machines) (r : Standing) → r ≡ stepped m s i (r .at)
+    → both (r .at) y ≡ advanced (x .lows) (x .highs) i (cornersIn x (s .at)) → Turned j m w x report s (moved x y) report r
+explored-straight {j} {m} {w} {x} {report} {s} g e i d y r q k =
+    let h = g .explored .held in
+    subst (λ (u : Standing). Turned j m w x report s (moved x y) report u) (sym q)
+    (explored-moved (g .explored) (moved x y) (stepped m s i (r .at)) (record {
+      held = held-straight h e i d y (r .at) k;
+      paths = refl;
+      going = refl;
+      less = work-straight h e i d y (r .at) (g .going);
+    })
+    (λ _. g .explored .before e))
 
 -- it stops
-pub explored-halted : {j : Job} {m : Limits} {w : Window} {x : Lists} {report : List ℕ} {s : Standing} → Explored j m w x report s
-    → s .running ≡ false → (b : Bool) → Stopped w x (halted s b) → Explored j m w x report (halted s b)
-explored-halted {j} {m} {w} {x} {report} {s} e r b h =
-    let k = e .held in
+pub explored-halted : {j : Job} {m : Limits} {w : Window} {x : Lists} {report : List ℕ} {s : Standing} → Going j m w x report s
+    → s .running ≡ false → (b : Bool) → Stopped w x (halted s b) → Turned j m w x report s x report (halted s b)
+unfolding work
+explored-halted {j} {m} {w} {x} {report} {s} g r b h =
+    let e = g .explored in
     record {
-      held = record {
-        sound = k .sound;
-        reached = rw r at (k .reached);
-        corners = λ z. let u : _≡_ {A = ℕ} 0 1 = cc in absurd (omega arith);
-        limit = k .limit;
-        entries = k .entries;
-        paired = k .paired;
-        inputs = k .inputs;
-        room = k .room;
-        count = k .count;
+      explored = record {
+        held = record { fits = e .held .fits; reached = rw r at (e .held .reached); corners = not-both refl; count = e .held .count };
+        paged = e .paged;
+        written = e .written;
+        within = e .within;
+        before = not-both refl;
+        stopped = λ _. h;
       };
-      written = e .written;
-      within = e .within;
-      before = λ z. let u : _≡_ {A = ℕ} 0 1 = cc in absurd (omega arith);
-      space = e .space;
-      few = e .few;
-      some = e .some;
-      end-fits = e .end-fits;
-      steps-fit = e .steps-fit;
-      stopped = λ _. h;
+      less = omega (arith, work-resting j x s (g .going) r);
+      paths = omega arith;
+      kept = refl;
     }
 
-pub work-halted : (j : Job) (x : Lists) (s : Standing) (b : Bool) → s .running ≡ false → s .going ≡ true
-    → work j x (halted s b) < work j x s
-unfolding work
-work-halted j x s b r g = omega (arith, work-resting j x s g r)
-
--- the latest fork goes, fk being that fork as it was read from the table
-pub explored-dropped : {j : Job} {m : Limits} {w : Window} {x : Lists} {report : List ℕ} {s : Standing} → Explored j m w x report s
-    → s .running ≡ false → s .going ≡ true → 0 < s .forks
-    → (fk : Fork) → fk ≡ latest x s → fk .spent ≡ true → (ls hs : List ℕ)
-    → boxIn ls hs ≡ cut (boxIn (x .lows) (x .highs)) (fk .input) (fk .low ⋯ fk .high)
+-- the latest fork goes, f being that fork as it was read from the table
+pub explored-dropped : {j : Job} {m : Limits} {w : Window} {x : Lists} {report : List ℕ} {s : Standing} → Going j m w x report s
+    → s .running ≡ false → 0 < s .forks
+    → (f : Fork) → f ≡ latest x s → f .spent ≡ true → (ls hs : List ℕ)
+    → boxIn ls hs ≡ cut (boxIn (x .lows) (x .highs)) (f .input) (f .low ⋯ f .high)
     → length ls ≡ length (x .lows) → length hs ≡ length (x .highs)
-    → let y = lists ls hs (x .table) (x .low) (x .lowmem) (x .high) (x .highmem) (x .tags) (x .cells) in
-    Explored j m w y report (dropped fk s) × (work j y (dropped fk s) < work j x s)
-explored-dropped {j} {m} {w} {x} {report} {s} e r g o fk k t ls hs b p q =
-    let y = lists ls hs (x .table) (x .low) (x .lowmem) (x .high) (x .highmem) (x .tags) (x .cells) in
+    → Turned j m w x report s (lists ls hs (x .table) (x .machines)) report (dropped f s)
+explored-dropped {j} {m} {w} {x} {report} {s} g r o f k t ls hs b p q =
+    let h = g .explored .held in
     let b′ = rw k at b in
     let t′ = rw k at t in
-    rw k (
-      explored-moved e y (dropped (latest x s) s) (held-dropped (e .held) r o t′ ls hs b′ p q) refl refl
-          (λ z. let u : _≡_ {A = ℕ} 0 1 = cc in absurd (omega arith)),
-      work-dropped (e .held) r o t′ ls hs b′ p q g,
-    )
+    rw k (explored-moved (g .explored) (lists ls hs (x .table) (x .machines)) (dropped (latest x s) s) (record {
+      held = held-dropped h r o t′ ls hs b′ p q;
+      paths = refl;
+      going = refl;
+      less = work-dropped h r o t′ ls hs b′ p q (g .going);
+    })
+    (not-both refl))
 
 -- the registers of a path, in two lists
 box-map : (f g : ℕ → ℕ) (l : List ℕ) → boxIn (map f l) (map g l) ≡ map (λ n. f n ⋯ g n) l
@@ -130,9 +119,9 @@ drop-later n m a b l e =
     let k : m ≡ n + (m - n) = omega arith in
     rw k (sym (drop-drop (m - n) n a) ∙ ap (drop (m - n)) e ∙ drop-drop (m - n) n b)
 
-pub kept-later : (w : Window) (s r : Standing) (a b : List ℕ) → s .paths ≤ r .paths → drop (filled w s) a ≡ drop (filled w s) b
-    → drop (filled w r) a ≡ drop (filled w r) b
-kept-later w s r a b l e = drop-later (filled w s) (filled w r) a b (omega arith) e
+pub kept-later : (n : ℕ) (w : Window) (s r : Standing) (a b : List ℕ) → s .paths ≤ r .paths → drop (filled n w s) a ≡ drop (filled n w s) b
+    → drop (filled n w r) a ≡ drop (filled n w r) b
+kept-later n w s r a b l e = drop-later (filled n w s) (filled n w r) a b (omega arith) e
 
 -- b bytes put into a list at n
 module _ (n b : ℕ) (l v : List ℕ) (e : length v ≡ b) (h : n + b ≤ length l) where
@@ -149,11 +138,19 @@ module _ (n b : ℕ) (l v : List ℕ) (e : length v ≡ b) (h : n + b ≤ length
   put-length = simp (length-append, length-take, length-drop) (omega arith)
 
 -- the group at hand ends
-module _ {j : Job} {m : Limits} {w : Window} {x : Lists} {report : List ℕ} {s : Standing} (e : Explored j m w x report s)
-    (r : s .running ≡ true) {end : End}
-    (d : decision (j .code) m (usedOf s) (s .at .low) (x .low) (x .high) ≡ Ended end) where
+module _ {j : Job} {m : Limits} {w : Window} {x : Lists} {report : List ℕ} {s : Standing} (g : Going j m w x report s)
+    (r : s .running ≡ true) {end : End} (d : decisionOn (j .code) m x s ≡ Ended end) where
+  abbrev e : Explored j m w x report s
+  e = g .explored
+
+  abbrev low : List ℕ
+  low = x .machines .low
+
+  abbrev high : List ℕ
+  high = x .machines .high
+
   abbrev path : Path
-  path = endedPath (x .lows) (x .highs) (x .low) (x .high) s end
+  path = endedPath (x .lows) (x .highs) low high s end
 
   path-is : path ≡ here (e .held) r d
   unfolding pathOf
@@ -167,7 +164,7 @@ module _ {j : Job} {m : Limits} {w : Window} {x : Lists} {report : List ℕ} {s 
         reads = s .at .low .reads;
         registers = v;
       })
-      (box-map (λ n. min (getD (x .low) n 0) (getD (x .high) n 0)) (λ n. max (getD (x .low) n 0) (getD (x .high) n 0)) (from 0 32))
+      (box-map (λ n. min (getD low n 0) (getD high n 0)) (λ n. max (getD low n 0) (getD high n 0)) (from 0 32))
       ∙ (λ k. record {
         end = end;
         pc = c k .low .pc;
@@ -177,41 +174,41 @@ module _ {j : Job} {m : Limits} {w : Window} {x : Lists} {report : List ℕ} {s 
         registers = map (λ n. min (reg n (c k .low)) (reg n (c k .high)) ⋯ max (reg n (c k .low)) (reg n (c k .high))) (from 0 32);
       })
 
-  path-length : length (recordOf (s .paths) path) ≡ pathBytes
+  path-length : length (recordOf (s .paths) path) ≡ recordBytes (m .inputs)
   path-length = record-length (s .paths) path
-      (omega (arith, length-in (x .lows) (x .highs) (e .held .paired), e .held .inputs, e .few))
-      (length-in (leasts (x .low) (x .high)) (greatests (x .low) (x .high)) (length-map (from 0 32) _ ∙ sym (length-map (from 0 32) _))
+      (omega (arith, length-in (x .lows) (x .highs) (e .held .fits .paired), e .held .fits .inputs, e .paged .few))
+      (length-in (leasts low high) (greatests low high) (length-map (from 0 32) _ ∙ sym (length-map (from 0 32) _))
       ∙ length-map (from 0 32) _ ∙ length-from 32 0)
 
   -- what writing the path asks
-  pub path-fits : (length (x .lows) ≤ room) × (length (x .lows) ≡ length (x .highs)) × (filled w s + pathBytes ≤ length report)
-  path-fits = (omega (arith, e .held .inputs, e .few), e .held .paired, omega (arith, e .space, e .before r, e .some))
+  pub path-fits : ((length (x .lows) ≤ mostInputs) × (length (x .lows) ≡ length (x .highs))) × (filled (length (x .lows)) w s + recordBytes (length (x .lows)) ≤ length report)
+  path-fits = ((omega (arith, e .held .fits .inputs, e .paged .few), e .held .fits .paired), omega (arith, e .paged .space, e .before r, e .paged .some))
 
   abbrev next : List ℕ
-  next = withPath w s path report
+  next = pageWith w s path report
 
   -- before the page begins, and in it
-  early : s .paths < w .first → (next ≡ report) × (filled w (ended s) ≡ 0)
+  early : s .paths < w .first → (next ≡ report) × (filled (m .inputs) w (ended s) ≡ 0)
   early l = (rw (lt-ltb (s .paths) (w .first) l), omega arith)
 
   late : w .first ≤ s .paths
-      → (next ≡ take (filled w s) report ++ recordOf (s .paths) path ++ drop (filled w s + pathBytes) report)
-      × (filled w (ended s) ≡ filled w s + pathBytes)
+      → (next ≡ take (filled (m .inputs) w s) report ++ recordOf (s .paths) path ++ drop (filled (m .inputs) w s + recordBytes (m .inputs)) report)
+      × (filled (m .inputs) w (ended s) ≡ filled (m .inputs) w s + recordBytes (m .inputs))
   late l = (rw (le-ltb (s .paths) (w .first) l), omega arith)
 
-  past : drop (filled w (ended s)) next ≡ drop (filled w (ended s)) report
+  past : drop (filled (m .inputs) w (ended s)) next ≡ drop (filled (m .inputs) w (ended s)) report
   past = elim (decLt (s .paths) (w .first)) [
-    | yes l ↦ ap (drop (filled w (ended s))) (early l .0)
+    | yes l ↦ ap (drop (filled (m .inputs) w (ended s))) (early l .0)
     | no l ↦ (
         let (a, b) = late (omega arith) in
-        rw (a, b) (put-drop (filled w s) pathBytes report (recordOf (s .paths) path) path-length (path-fits .2)))
+        rw (a, b) (put-drop (filled (m .inputs) w s) (recordBytes (m .inputs)) report (recordOf (s .paths) path) path-length (path-fits .1)))
   ]
 
   same-bytes : length next ≡ length report
   same-bytes = elim (decLt (s .paths) (w .first)) [
     | yes l ↦ ap length (early l .0)
     | no l ↦ ap length (late (omega arith) .0)
-        ∙ put-length (filled w s) pathBytes report (recordOf (s .paths) path) path-length (path-fits .2)
+        ∙ put-length (filled (m .inputs) w s) (recordBytes (m .inputs)) report (recordOf (s .paths) path) path-length (path-fits .1)
   ]
 
   -- the listing's paths from the first wanted on
@@ -232,7 +229,7 @@ module _ {j : Job} {m : Limits} {w : Window} {x : Lists} {report : List ℕ} {s 
         ← path-is,
       )
 
-  page : take (filled w (ended s)) next ≡ records (w .first) (drop (w .first) (listed j (ended s)))
+  page : take (filled (m .inputs) w (ended s)) next ≡ records (w .first) (drop (w .first) (listed j (ended s)))
   unfolding records
   page = elim (decLt (s .paths) (w .first)) [
     | yes l ↦ (
@@ -242,22 +239,26 @@ module _ {j : Job} {m : Limits} {w : Window} {x : Lists} {report : List ℕ} {s 
     | no l ↦ (
         let (a, b) = late (omega arith) in
         rw (a, b, more-records (omega arith), ← (e .written))
-        (put-take (filled w s) pathBytes report (recordOf (s .paths) path) path-length (path-fits .2)))
+        (put-take (filled (m .inputs) w s) (recordBytes (m .inputs)) report (recordOf (s .paths) path) path-length (path-fits .1)))
   ]
 
-  pub explored-ended : Explored j m w x next (ended s) × (drop (filled w (ended s)) next ≡ drop (filled w (ended s)) report)
-  explored-ended = (
-    record {
+  pub explored-ended : Turned j m w x report s x next (ended s)
+  explored-ended = record {
+    explored = record {
       held = held-ended (e .held) r d;
+      paged = record {
+        space = omega (arith, e .paged .space, same-bytes);
+        few = e .paged .few;
+        some = e .paged .some;
+        end-fits = e .paged .end-fits;
+        steps-fit = e .paged .steps-fit;
+      };
       written = page;
       within = omega (arith, e .before r);
-      before = λ z. let u : _≡_ {A = ℕ} 0 1 = cc in absurd (omega arith);
-      space = omega (arith, e .space, same-bytes);
-      few = e .few;
-      some = e .some;
-      end-fits = e .end-fits;
-      steps-fit = e .steps-fit;
-      stopped = λ z. let u : _≡_ {A = ℕ} 0 1 = cc in absurd (omega arith);
-    },
-    past,
-  )
+      before = not-both refl;
+      stopped = λ z. not-both z refl;
+    };
+    less = work-ended (e .held) r d (g .going);
+    paths = omega arith;
+    kept = past;
+  }

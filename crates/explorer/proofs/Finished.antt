@@ -11,65 +11,61 @@ use lib.Dec.{ltb}
 use lib.ListN.{length, drop, length-drop, take-append-drop, drop-of-length-le}
 use Rattle.listing.specs.Group.{Job}
 use Rattle.listing.specs.Listing.{Path, listing}
-use Rattle.blocks.specs.Record.{pathBytes, records}
+use Rattle.blocks.specs.Record.{recordBytes, records}
 use Rattle.calls.specs.Call.{Call, callOf, page}
-use Rattle.corners.proofs.Corner.{Good}
 use Rattle.forks.specs.Turn.{running, resting, Reached, begins}
 use Rattle.forks.specs.Table.{groupIn, forksIn}
 use Rattle.forks.proofs.Positions.{reached-represents}
 use Rattle.forks.proofs.Page.{page-ended, page-full}
 use Rattle.decide.specs.declared.Limits.{Limits}
-use Rattle.lockstep.specs.Together.{together, starting}
+use Rattle.lockstep.specs.Together.{Machines, both, together, starting}
 use Rattle.lockstep.specs.declared.Corners.{Corners}
-use Rattle.explorer.specs.Held.{Lists, lists, cornersIn, groupOf, listed}
+use Rattle.explorer.specs.Held.{Lists, lists, groupOf, listed}
 use Rattle.explorer.specs.Explored.{filled, Explored}
 use Rattle.explorer.specs.Finished.{Begins, Finished, begun}
 use Rattle.explorer.specs.declared.Standing.{Standing}
 use Rattle.explorer.specs.declared.Window.{Window}
+use Rattle.explorer.proofs.Stands.{not-both}
 use Rattle.explorer.proofs.Forking.{replayed-to}
 use Rattle.explorer.proofs.Resuming.{between}
+use Rattle.corners.specs.Good.{Good}
 
-module _ {j : Job} {m : Limits} {w : Window} {ls hs table report : List ℕ} (b : Begins j m w ls hs table report)
-    (limit : m .steps ≡ j .limit) (entries : m .entries ≡ j .entries) where
+module _ {j : Job} {m : Limits} {w : Window} {ls hs table report : List ℕ} (b : Begins j m w ls hs table report) where
   first-good : Good j (groupIn ls hs 0 0)
-  first-good = record { sound = rw (b .box) (b .sound); smooth = λ n l. absurd (omega arith) }
+  first-good = record { sound = rw (b .box) (b .fits .sound); smooth = λ n l. absurd (omega arith) }
 
-  pub begins-explored : (l c h o t v : List ℕ) (a : Corners)
-      → cornersIn (lists ls hs table l c h o t v) a ≡ together ls hs (j .code) 0 (starting (j .memory))
-      → Explored j m w (lists ls hs table l c h o t v) report (begun a)
+  pub begins-explored : (x : Machines) (a : Corners) → both a x ≡ together ls hs (j .code) 0 (starting (j .memory))
+      → Explored j m w (lists ls hs table x) report (begun a)
   unfolding forksIn records
-  begins-explored l c h o t v a z = record {
+  begins-explored x a z = record {
     held = record {
-      sound = b .sound;
+      fits = b .fits;
       reached = subst (λ (x : _). Reached j (running [] (record { box = x; steps = 0; used = 0 }) [])) (sym (b .box)) begins;
-      corners = λ _. z ∙ replayed-to j ls hs 0 0 (b .paired) first-good;
-      limit = limit;
-      entries = entries;
-      paired = b .paired;
-      inputs = b .inputs;
-      room = b .room;
+      corners = λ _. z ∙ replayed-to j ls hs 0 0 (b .fits .paired) first-good;
       count = refl;
     };
+    paged = record {
+      space =
+          let e : w .end - w .first ≡ length report / recordBytes (m .inputs) = omega (arith, b .end) in
+          rw e (omega (arith, div-mul-le-self (length report) (recordBytes (m .inputs))));
+      few = b .few;
+      some = omega (arith, b .some, b .end);
+      end-fits = b .end-fits;
+      steps-fit = b .steps-fit;
+    };
     written =
-        let e : filled w (begun a) ≡ 0 = omega arith in
+        let e : filled (m .inputs) w (begun a) ≡ 0 = omega arith in
         rw (e, drop-of-length-le {A = Path} [] {i = w .first} (omega arith));
     within = omega arith;
     before = λ _. omega (arith, b .some, b .end);
-    space =
-        let e : w .end - w .first ≡ length report / pathBytes = omega (arith, b .end) in
-        rw e (omega (arith, div-mul-le-self (length report) pathBytes));
-    few = b .few;
-    some = omega (arith, b .some, b .end);
-    end-fits = b .end-fits;
-    steps-fit = b .steps-fit;
-    stopped = λ q. let u : _≡_ {A = ℕ} 0 1 = cc in absurd (omega arith);
+    stopped = λ q. not-both q refl;
   }
 
 -- it has stopped: the paths ended are those of the page and the ones before it
 module _ {j : Job} {m : Limits} {w : Window} {x : Lists} {report : List ℕ} {s : Standing} (e : Explored j m w x report s)
     (stop : s .going ≡ false)
-    (code intervals : List ℕ) (lent : List ℕ) (size : length report ≡ length lent) (end : w .end ≡ w .first + length lent / pathBytes)
-    (rest : drop (filled w s) report ≡ drop (filled w s) lent) where
+    (code intervals : List ℕ) (lent : List ℕ) (size : length report ≡ length lent) (end : w .end ≡ w .first + length lent / recordBytes (m .inputs))
+    (rest : drop (filled (m .inputs) w s) report ≡ drop (filled (m .inputs) w s) lent) where
   abbrev call : Call
   call = callOf code intervals (m .steps) lent (w .first)
 
@@ -85,11 +81,11 @@ module _ {j : Job} {m : Limits} {w : Window} {x : Lists} {report : List ℕ} {s 
       ⊎-elim
       (λ (n, z).
       let reached : Reached j (resting ps (groupOf x s) []) = rw (r, z) at (h .reached) in
-      let (p, q) = page-ended j (h .sound) call (reached-represents (h .sound) reached .1) (omega (arith, h .count, e .within, end)) in
+      let (p, q) = page-ended j (h .fits .sound) call (reached-represents (h .fits .sound) reached .1) (omega (arith, h .count, e .within, end)) in
       (p, n ∙ sym q))
       (λ (n, some, t, z).
       let reached = between h r some in
-      let (p, q) = page-full j (h .sound) call (reached-represents (h .sound) reached .1) t (omega (arith, h .count, z, end)) in
+      let (p, q) = page-full j (h .fits .sound) call (reached-represents (h .fits .sound) reached .1) t (omega (arith, h .count, z, end)) in
       (p, n ∙ sym q))
       o
 
@@ -101,7 +97,7 @@ module _ {j : Job} {m : Limits} {w : Window} {x : Lists} {report : List ℕ} {s 
         count = n ∙ sym (ap length p);
         more = q ∙ rw p;
         bytes =
-            sym (take-append-drop (filled w s) report)
+            sym (take-append-drop (filled (m .inputs) w s) report)
             ∙ (λ k. e .written k ++ rest k)
             ∙ rw (p, n);
       }

@@ -8,7 +8,7 @@ use Prim.Native.Nat.{ℕ, suc, _+_, _*_, _≤_, _<_}
 use native.Mathlib.Omega.{arith}
 use native.Mathlib.Numerals.{add-one}
 use lib.Dec.{ltb}
-use lib.ListN.{length, getD, length-set}
+use lib.ListN.{length, getD}
 use Rattle.boxes.specs.Boxes.{Choice, lows, highs}
 use Rattle.boxes.specs.Cuts.{below, boxIn}
 use Rattle.boxes.proofs.OneInput.{one-input-convex}
@@ -16,30 +16,30 @@ use Rattle.boxes.proofs.Pieces.{edge-exists}
 use Rattle.riscu.specs.declared.Instruction.{Instruction}
 use Rattle.listing.specs.Group.{Job, Group, after, classOf}
 use Rattle.listing.specs.Ending.{writes, endBy}
-use Rattle.listing.specs.Listing.{Path, later}
-use Rattle.corners.proofs.Corner.{Good, lowState, inputOf, cornersOf}
-use Rattle.corners.proofs.Enough.{weight}
+use Rattle.listing.specs.Listing.{later}
 use Rattle.forks.specs.Stack.{Running, written, forkAt}
 use Rattle.forks.specs.Turn.{running, Turn, forking, Reached, stateOf, Fetches, OneClass, Cuttable, classAt}
-use Rattle.forks.specs.Table.{groupIn, forksIn}
+use Rattle.calls.specs.Limits.{entryWords}
+use Rattle.forks.specs.Table.{groupIn, HasEntry, OnTop}
 use Rattle.boxes.proofs.TwoLists.{lows-in, highs-in, length-in}
 use Rattle.forks.proofs.Turns.{now-one, fork-cuttable, goes-forking}
 use Rattle.forks.proofs.Positions.{reached-represents, within-limit}
-use Rattle.decide.specs.Corner.{machine, decision}
-use Rattle.lockstep.specs.Together.{Hangs, together, starting}
-use Rattle.lockstep.proofs.LockStep.{cornersAfter, replayed, hangs-on}
+use Rattle.decide.specs.Corner.{machine}
+use Rattle.lockstep.specs.Together.{Hangs, together, starting, cornersAfter}
+use Rattle.lockstep.proofs.LockStep.{replayed, hangs-on}
 use Rattle.decide.proofs.Decisions.{class-by-registers}
 use Rattle.decide.proofs.Says.{says-forks}
 use Rattle.decide.specs.declared.Limits.{Limits}
-use Rattle.decide.specs.declared.Decision.the-variants.{Forks}
 use Rattle.lockstep.specs.declared.Corners.{Corners}
 use Rattle.cuts.specs.Cutting.{probed, Starts}
-use Rattle.cuts.specs.Forking.{Parted}
+use Rattle.cuts.specs.Entries.{forkOf}
+use Rattle.cuts.specs.Forking.{Partable, Parted}
 use Rattle.cuts.proofs.Edges.{starts-in, parted-edge, parted-below}
-use Rattle.explorer.specs.Held.{Lists, lists, groupOf, forksOf, usedOf, cornersIn, Held, forked, groupsLeft, work}
+use Rattle.explorer.specs.Held.{Lists, groupOf, forksOf, cornersIn, lowClass, Held, listed, forked, groupsLeft, work, AtFork, GoesOn}
 use Rattle.explorer.specs.declared.Standing.{Standing}
-use Rattle.explorer.proofs.Stands.{represented, good, stands, forks-within, turned, lighter, work-running}
+use Rattle.explorer.proofs.Stands.{fits-parted, represented, stands, forks-within, turned, lighter, work-running}
 use Rattle.explorer.proofs.Straight.{written-is}
+use Rattle.corners.specs.Good.{Good, lowState, inputOf, cornersOf, weight}
 
 -- both corners replayed to a good group
 pub replayed-to : (j : Job) (ls hs : List ℕ) (n u : ℕ) → length ls ≡ length hs → Good j (groupIn ls hs n u)
@@ -48,121 +48,122 @@ replayed-to j ls hs n u e g =
     (λ k. together (sym (lows-in ls hs e) k) (sym (highs-in ls hs e) k) (j .code) n (starting (j .memory)))
     ∙ replayed j (boxIn ls hs) (g .sound) n (g .smooth)
 
-module _ {j : Job} {m : Limits} {ps : List Path} {x : Lists} {s : Standing} (h : Held j m ps x s) (e : s .running ≡ true) where
+module _ {j : Job} {m : Limits} {x : Lists} {s : Standing} {i : Instruction} (k : AtFork j m x s i) where
+  abbrev h : Held j m (listed j s) x s
+  h = k .held
+
+  abbrev g : Group
+  g = groupOf x s
+
+  abbrev input : ℕ
+  input = inputOf j g i
+
   -- the class at the low corner, and the input that it hangs on
-  pub class-is : (i : Instruction) → classOf i (machine (x .low)) ≡ classOf i (after j (s .steps) (x .lows))
-  class-is i =
-      ap (λ (r : List ℕ). classOf i (machine r)) (stands h e .low-registers)
-      ∙ class-by-registers i (lowState j (groupOf x s))
-      ∙ ap (λ (c : Choice). classOf i (after j (s .steps) c)) (lows-in (x .lows) (x .highs) (h .paired))
+  class-is : lowClass i x ≡ classOf i (after j (s .steps) (x .lows))
+  class-is =
+      ap (λ (r : List ℕ). classOf i (machine r)) (stands h (k .running) .low-registers)
+      ∙ class-by-registers i (lowState j g)
+      ∙ ap (λ (c : Choice). classOf i (after j (s .steps) c)) (lows-in (x .lows) (x .highs) (h .fits .paired))
 
-  input-is : (i : Instruction) (t : ℕ) → Hangs i (x .low) (x .high) (x .tags) t → t ≡ inputOf j (groupOf x s) i
-  input-is i t = hangs-on j (groupOf x s) i (s .at) (x .low) (x .lowmem) (x .high) (x .highmem) (x .tags) (x .cells) (h .corners e)
+  input-is : (t : ℕ) → Hangs i (x .machines .low) (x .machines .high) (x .machines .tags) t → t ≡ input
+  input-is t = hangs-on j g i (s .at) (x .machines) (h .corners (k .running))
 
-  module _ (i : Instruction) (d : decision (j .code) m (usedOf s) (s .at .low) (x .low) (x .high) ≡ Forks i) where
-    abbrev g : Group
-    g = groupOf x s
+  goes : endBy j g (cornersOf j g) ≡ none
+  goes = says-forks (stands h (k .running)) (k .forks) .0
 
-    abbrev input : ℕ
-    input = inputOf j g i
+  fetched : Fetches j g i
+  fetched = says-forks (stands h (k .running)) (k .forks) .1
 
-    goes : endBy j g (cornersOf j g) ≡ none
-    goes = says-forks (stands h e) d .0
+  apart : ¬ OneClass j g i
+  apart = says-forks (stands h (k .running)) (k .forks) .2
 
-    fetched : Fetches j g i
-    fetched = says-forks (stands h e) d .1
+  cuts : Cuttable (classAt j (s .steps) i) (boxIn (x .lows) (x .highs)) input
+  cuts = fork-cuttable (represented h (k .running) .1) goes fetched apart
 
-    apart : ¬ OneClass j g i
-    apart = says-forks (stands h e) d .2
+  input-inside : input < length (x .lows)
+  input-inside = omega (arith, cuts .inside, length-in (x .lows) (x .highs) (h .fits .paired))
 
-    cuts : Cuttable (classAt j (s .steps) i) (boxIn (x .lows) (x .highs)) input
-    cuts = fork-cuttable (represented h e .1) goes fetched apart
+  fork-starts : Starts (probed (j .code) (j .memory) (s .steps) i (x .lows) input) (classOf i (after j (s .steps) (x .lows)))
+      (getD (x .lows) input 0) (getD (x .highs) input 0)
+  fork-starts = starts-in j (x .lows) (x .highs) (h .fits .paired) (s .steps) (s .used) i input cuts
 
-    pub input-inside : input < length (x .lows)
-    input-inside = omega (arith, cuts .inside, length-in (x .lows) (x .highs) (h .paired))
+  -- the group that a cut leads to is within the job's limits
+  after-fork : (n : ℕ) × (q : ℕ)
+      × Running j n (listed j s) (later g (written j g i + 1) (below (g .box) input q)) (forkAt g input q ∷ forksOf x s)
+  after-fork =
+      let (n, r) = represented h (k .running) in
+      let (q, d) = edge-exists (g .box) (r .good .sound .proper) (one-input-convex (g .box) (now-one r goes fetched)) apart in
+      (suc n, q, goes-forking r goes fetched d)
 
-    pub fork-starts : Starts (probed (j .code) (j .memory) (s .steps) i (x .lows) input) (classOf i (after j (s .steps) (x .lows)))
-        (getD (x .lows) input 0) (getD (x .highs) input 0)
-    fork-starts = starts-in j (x .lows) (x .highs) (h .paired) (s .steps) (s .used) i input cuts
+  pub fork-entry : HasEntry (x .table) (s .forks)
+  fork-entry = omega (arith, after-fork .2 .entries-fit, forks-within h (k .running), h .fits .table-fits)
 
-    -- the group that a cut leads to is within the job's limits
-    after-fork : (n : ℕ) × (q : ℕ) × Running j n ps (later g (written j g i + 1) (below (g .box) input q)) (forkAt g input q ∷ forksOf x s)
-    after-fork =
-        let (n, r) = represented h e in
-        let (q, k) = edge-exists (g .box) (r .good .sound .proper) (one-input-convex (g .box) (now-one r goes fetched)) apart in
-        (suc n, q, goes-forking r goes fetched k)
+  pub fork-used : entryWords * (s .used + (writes (ltb (s .at .low .reads) (m .inputs)) i + 1)) ≤ length (x .table)
+  fork-used = omega (arith, written-is h (k .running) i, after-fork .2 .entries-fit, h .fits .table-fits)
 
-    pub fork-room : (8 * s .forks + 8 ≤ length (x .table)) × (8 * (s .used + (written j g i + 1)) ≤ length (x .table))
-        × (s .steps + 1 ≤ m .steps)
-    fork-room =
-        let r = after-fork .2 in
-        let l = within-limit j (h .sound) r in (
-          omega (arith, r .room, forks-within h e, h .room),
-          omega (arith, r .room, h .room),
-          omega (arith, l, h .limit),
-        )
+  pub fork-steps : s .steps + 1 ≤ m .steps
+  fork-steps = omega (arith, within-limit j (h .fits .sound) (after-fork .2), h .fits .limit)
 
-    module _ (ls hs t : List ℕ) (q : ℕ)
-        (p : Parted (probed (j .code) (j .memory) (s .steps) i (x .lows) input) (classOf i (after j (s .steps) (x .lows))) input (x .lows)
-        (x .highs) ls hs q)
-        (f : forksIn t (suc (s .forks)) ≡ forkAt g input q ∷ forksOf x s) where
-      turn : Turn j (running ps g (forksOf x s))
-          (running ps (later g (written j g i + 1) (below (g .box) input q)) (forkAt g input q ∷ forksOf x s))
-      turn = forking goes fetched (parted-edge j (x .lows) (x .highs) (h .paired) (s .steps) (s .used) i input p)
+  module _ (y : Lists) (a : Corners) (q : ℕ)
+      (p : Parted (probed (j .code) (j .memory) (s .steps) i (x .lows) input) (classOf i (after j (s .steps) (x .lows))) input
+      (x .lows) (x .highs) (y .lows) (y .highs) q)
+      (f : OnTop (forkAt g input q) (x .table) (s .forks) (y .table)) where
+    turn : Turn j (running (listed j s) g (forksOf x s))
+        (running (listed j s) (later g (written j g i + 1) (below (g .box) input q)) (forkAt g input q ∷ forksOf x s))
+    turn = forking goes fetched (parted-edge j (x .lows) (x .highs) (h .fits .paired) (s .steps) (s .used) i input p)
 
-      abbrev below-box : boxIn ls hs ≡ below (g .box) input q
-      below-box = parted-below j (x .lows) (x .highs) (h .paired) (s .steps) (s .used) i input p
+    abbrev below-box : boxIn (y .lows) (y .highs) ≡ below (g .box) input q
+    below-box = parted-below j (x .lows) (x .highs) (h .fits .paired) (s .steps) (s .used) i input p
 
-      paired : length ls ≡ length hs
-      paired = ap length (p .lows) ∙ h .paired ∙ sym (length-set (x .highs) input q) ∙ sym (ap length (p .highs))
+    held-forking : length (y .table) ≡ length (x .table)
+        → cornersIn y a ≡ together (y .lows) (y .highs) (j .code) (s .steps + 1) (starting (j .memory))
+        → Held j m (listed j s) y (forked m s i a)
+    held-forking l z =
+        let fits = fits-parted (h .fits) p l in
+        let r = forked m s i a in
+        let reached : Reached j (running (listed j s) (groupOf y r) (forksOf y r)) =
+        rw (written-is h (k .running) i, add-one (s .forks), f, below-box) (turned h (k .running) turn) in
+        record {
+          fits = fits;
+          reached = reached;
+          corners = λ _. z
+              ∙ replayed-to j (y .lows) (y .highs) (s .steps + 1) _ (fits .paired) (reached-represents (fits .sound) reached .1 .good);
+          count = h .count;
+        }
 
-      pub held-forking : (l c r o k w : List ℕ) (a : Corners) → length t ≡ length (x .table)
-          → cornersIn (lists ls hs t l c r o k w) a ≡ together ls hs (j .code) (s .steps + 1) (starting (j .memory))
-          → Held j m ps (lists ls hs t l c r o k w) (forked m s i a)
-      held-forking l c r o k w a y z =
-          let reached : Reached j
-          (running ps (groupIn ls hs (s .steps + 1) (s .used + (writes (ltb (s .at .low .reads) (m .inputs)) i + 1)))
-          (forksIn t (s .forks + 1))) =
-          rw (written-is h e i, add-one (s .forks), f, below-box) (turned h e turn) in
-          record {
-            sound = h .sound;
-            reached = reached;
-            corners = λ _. z ∙ replayed-to j ls hs (s .steps + 1) _ paired (reached-represents (h .sound) reached .1 .good);
-            limit = h .limit;
-            entries = h .entries;
-            paired = paired;
-            inputs = ap length (p .lows) ∙ h .inputs;
-            room = omega (arith, h .room);
-            count = h .count;
-          }
+    work-forking : work j y (forked m s i a) < work j x s
+    unfolding stateOf
+    work-forking =
+        let r = forked m s i a in
+        let v : weight j (groupsLeft j true (groupOf y r) (forksOf y r))
+        ≡ weight j (stateOf j
+        (running (listed j s) (later g (written j g i + 1) (below (g .box) input q)) (forkAt g input q ∷ forksOf x s)) .waiting) =
+        rw (written-is h (k .running) i, add-one (s .forks), f, below-box) in
+        omega (arith, lighter h (k .running) turn, v, work-running j x s (k .going) (k .running), work-running j y r refl refl)
 
-      pub work-forking : (l c r o k w : List ℕ) (a : Corners) → s .going ≡ true
-          → work j (lists ls hs t l c r o k w) (forked m s i a) < work j x s
-      unfolding stateOf
-      work-forking l c r o k w a u =
-          let y = lists ls hs t l c r o k w in
-          let z = forked m s i a in
-          let v : weight j (groupsLeft j true (groupOf y z) (forksOf y z))
-          ≡ weight j (stateOf j (running ps (later g (written j g i + 1) (below (g .box) input q)) (forkAt g input q ∷ forksOf x s)) .waiting) =
-          rw (written-is h e i, add-one (s .forks), f, below-box) in
-          omega (arith, lighter h e turn, v, work-running j x s u e, work-running j y z refl refl)
+  -- by what the code has found: the tag of the class, and the class at the low corner
+  module _ (tag : ℕ) (hangs : Hangs i (x .machines .low) (x .machines .high) (x .machines .tags) tag) where
+    pub tag-inside : tag < length (x .lows)
+    tag-inside = rw (input-is tag hangs) input-inside
 
-    -- by what the code has found: the tag of the class, and the class at the low corner
-    module _ (tag : ℕ) (hangs : Hangs i (x .low) (x .high) (x .tags) tag) where
-      pub tag-inside : tag < length (x .lows)
-      tag-inside = rw (input-is i tag hangs) input-inside
+    module _ (c : ℕ) (class : c ≡ lowClass i x) where
+      pub fork-partable : Partable (probed (j .code) (j .memory) (s .steps) i (x .lows) tag) c tag (x .lows) (x .highs)
+      fork-partable = record {
+        paired = h .fits .paired;
+        inside = tag-inside;
+        starts = rw (input-is tag hangs, class, class-is) fork-starts;
+      }
 
-      module _ (k : ℕ) (class : k ≡ classOf i (machine (x .low))) where
-        pub starts-at : Starts (probed (j .code) (j .memory) (s .steps) i (x .lows) tag) k (getD (x .lows) tag 0) (getD (x .highs) tag 0)
-        starts-at = rw (input-is i tag hangs, class, class-is i) fork-starts
-
-        pub fork-done : (ls hs t : List ℕ) (q : ℕ)
-            → Parted (probed (j .code) (j .memory) (s .steps) i (x .lows) tag) k tag (x .lows) (x .highs) ls hs q
-            → forksIn t (suc (s .forks)) ≡ forkAt g tag q ∷ forksOf x s → length t ≡ length (x .table) → s .going ≡ true
-            → (l c r o u w : List ℕ) (a : Corners)
-            → cornersIn (lists ls hs t l c r o u w) a ≡ together ls hs (j .code) (s .steps + 1) (starting (j .memory))
-            → Held j m ps (lists ls hs t l c r o u w) (forked m s i a) × (work j (lists ls hs t l c r o u w) (forked m s i a) < work j x s)
-        fork-done ls hs t q p f y v l c r o u w a z =
-            let p′ = rw (input-is i tag hangs, class, class-is i) at p in
-            let f′ = rw (input-is i tag hangs) at f in
-            (held-forking ls hs t q p′ f′ l c r o u w a y z, work-forking ls hs t q p′ f′ l c r o u w a v)
+      pub fork-done : (y : Lists) (a : Corners) (q : ℕ)
+          → Parted (probed (j .code) (j .memory) (s .steps) i (x .lows) tag) c tag (x .lows) (x .highs) (y .lows) (y .highs) q
+          → OnTop (forkOf tag (getD (x .lows) tag 0) (getD (x .highs) tag 0) (q + 1) (s .steps) (s .used)) (x .table) (s .forks) (y .table)
+          → length (y .table) ≡ length (x .table)
+          → cornersIn y a ≡ together (y .lows) (y .highs) (j .code) (s .steps + 1) (starting (j .memory))
+          → GoesOn j m x s y (forked m s i a)
+      fork-done y a q p f l z =
+          let p′ = rw (input-is tag hangs, class, class-is) at p in
+          let e = h .fits .paired in
+          let d : OnTop (forkAt g tag q) (x .table) (s .forks) (y .table) =
+          rw (lows-in (x .lows) (x .highs) e, highs-in (x .lows) (x .highs) e) f in
+          let f′ = rw (input-is tag hangs) at d in
+          record { held = held-forking y a q p′ f′ l z; paths = refl; going = refl; less = work-forking y a q p′ f′ }

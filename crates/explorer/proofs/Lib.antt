@@ -7,7 +7,7 @@
 --     Explored    what each kind of turn keeps of the exploration, the page with it
 --     StraightOn  straight steps one after another
 --     Finished    the exploration of a call from its first group to its page
---     Accepting   a call that passed the questions at the door
+--     Accepting   a call that passed the questions
 --     Demands     the three demands, from the contract of `explore` alone
 pub mod Stands
 pub mod Straight

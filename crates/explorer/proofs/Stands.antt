@@ -1,43 +1,62 @@
 -- What is known where the explorer's lists hold a state of the engine.
 -- Assumes nothing.
 use mathlib.Core.Path.{_≡_, refl, sym, ap, _∙_}
-use mathlib.Core.Bool.{true, false, cond}
+use mathlib.Core.Bool.{Bool, true, false, cond}
 use mathlib.Core.List.{List}
 use Prim.Native.Nat.{ℕ, _+_, _*_, _≤_, _<_}
 use native.Mathlib.Omega.{arith}
+use lib.ListN.{length, length-set}
 use Rattle.boxes.specs.Boxes.{lows, highs}
 use Rattle.listing.specs.Group.{Job}
 use Rattle.listing.specs.Listing.{Path}
-use Rattle.corners.proofs.Corner.{Good}
 use Rattle.forks.specs.Stack.{Running}
 use Rattle.forks.specs.Turn.{Position, running, Turn, Reached, turns, stateOf}
 use Rattle.forks.proofs.Table.{forks-count}
 use Rattle.boxes.proofs.TwoLists.{length-in}
-use Rattle.forks.proofs.Positions.{reached-represents, turn-represents, within-limit, work-falls, depth}
-use Rattle.corners.proofs.Enough.{weight}
+use Rattle.forks.proofs.Positions.{reached-represents, turn-represents, work-falls, depth}
 use Rattle.lockstep.specs.Together.{Pair}
 use Rattle.decide.proofs.Decisions.{Stands}
 use Rattle.decide.specs.declared.Limits.{Limits}
-use Rattle.explorer.specs.Held.{Lists, groupOf, forksOf, usedOf, Held, groupsLeft, work}
+use Rattle.cuts.specs.Forking.{Parted}
+use Rattle.explorer.specs.Held.{Lists, groupOf, forksOf, usedOf, Fits, Held, groupsLeft, work}
 use Rattle.explorer.specs.declared.Standing.{Standing}
+use Rattle.corners.specs.Good.{weight}
+
+-- a flag is not both
+pub not-both : {A : Type 0} {b : Bool} → b ≡ false → b ≡ true → A
+not-both f t = let u : _≡_ {A = ℕ} 0 1 = cc in absurd (omega arith)
+
+-- lists as long as those that fit, fit as well
+pub fits-again : {j : Job} {m : Limits} {ls hs t ls′ hs′ t′ : List ℕ} → Fits j m ls hs t → length ls′ ≡ length ls → length hs′ ≡ length hs
+    → length t′ ≡ length t → Fits j m ls′ hs′ t′
+fits-again f p q r = record {
+  sound = f .sound;
+  limit = f .limit;
+  entries = f .entries;
+  paired = p ∙ f .paired ∙ sym q;
+  inputs = p ∙ f .inputs;
+  table-fits = omega (arith, f .table-fits);
+}
+
+-- so do those of a box that is cut
+pub fits-parted : {j : Job} {m : Limits} {ls hs t ls′ hs′ t′ : List ℕ} {f : ℕ → ℕ} {k i q : ℕ} → Fits j m ls hs t
+    → Parted f k i ls hs ls′ hs′ q → length t′ ≡ length t → Fits j m ls′ hs′ t′
+fits-parted {hs = hs} {i = i} {q = q} f p = fits-again f (ap length (p .lows)) (ap length (p .highs) ∙ length-set hs i q)
 
 module _ {j : Job} {m : Limits} {ps : List Path} {x : Lists} {s : Standing} (h : Held j m ps x s) (e : s .running ≡ true) where
   pub at-group : Reached j (running ps (groupOf x s) (forksOf x s))
   at-group = rw e at (h .reached)
 
   pub represented : (n : ℕ) × Running j n ps (groupOf x s) (forksOf x s)
-  represented = reached-represents (h .sound) at-group
+  represented = reached-represents (h .fits .sound) at-group
 
-  pub good : Good j (groupOf x s)
-  good = represented .1 .good
-
-  pub stands : Stands j (groupOf x s) m (usedOf s) (s .at .low) (x .low) (x .high)
+  pub stands : Stands j (groupOf x s) m (usedOf s) (s .at .low) (x .machines .low) (x .machines .high)
   stands =
       let c = h .corners e in
       record {
-        limit = h .limit;
-        entries = h .entries;
-        inputs = sym (h .inputs) ∙ sym (length-in (x .lows) (x .highs) (h .paired));
+        limit = h .fits .limit;
+        entries = h .fits .entries;
+        inputs = sym (h .fits .inputs) ∙ sym (length-in (x .lows) (x .highs) (h .fits .paired));
         steps = refl;
         used = refl;
         pc = ap (λ (p : Pair). p .low .pc) c;
@@ -50,16 +69,13 @@ module _ {j : Job} {m : Limits} {ps : List Path} {x : Lists} {s : Standing} (h :
   pub forks-within : s .forks ≤ s .used
   forks-within = omega (arith, depth j (forksOf x s) (groupOf x s) (represented .1 .stacked), forks-count (x .table) (s .forks))
 
-  pub steps-within : s .steps ≤ m .steps
-  steps-within = omega (arith, within-limit j (h .sound) (represented .1), h .limit)
-
   -- a turn from the group at hand
   module _ {t : Position} (d : Turn j (running ps (groupOf x s) (forksOf x s)) t) where
     pub turned : Reached j t
     turned = turns at-group d
 
     pub lighter : weight j (stateOf j t .waiting) < weight j (groupsLeft j true (groupOf x s) (forksOf x s))
-    lighter = let (n, r) = represented in work-falls j (h .sound) r t (turn-represents n d r)
+    lighter = let (n, r) = represented in work-falls j (h .fits .sound) r t (turn-represents n d r)
 
 -- the work at a group, and between two
 module _ (j : Job) (x : Lists) (s : Standing) (g : s .going ≡ true) where

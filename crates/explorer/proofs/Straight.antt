@@ -14,23 +14,22 @@ use Rattle.riscu.specs.declared.Decoded.the-variants.{Row}
 use Rattle.listing.specs.Group.{Job}
 use Rattle.listing.specs.Ending.{writes}
 use Rattle.listing.specs.Listing.{Path, later}
-use Rattle.corners.proofs.Corner.{Good}
-use Rattle.corners.proofs.Enough.{weight}
 use Rattle.forks.specs.Stack.{written}
 use Rattle.forks.specs.Turn.{running, Turn, straight, stateOf}
+use Rattle.calls.specs.Limits.{entryWords}
 use Rattle.boxes.specs.Cuts.{boxIn}
 use Rattle.boxes.proofs.TwoLists.{lows-in, highs-in}
 use Rattle.forks.proofs.Positions.{reached-represents, within-limit}
-use Rattle.decide.specs.Corner.{decision}
-use Rattle.lockstep.specs.Together.{advanced}
-use Rattle.lockstep.proofs.LockStep.{cornersAfter, advanced-after}
+use Rattle.lockstep.specs.Together.{Machines, advanced, cornersAfter}
+use Rattle.lockstep.proofs.LockStep.{advanced-after}
 use Rattle.decide.proofs.Says.{says-steps}
 use Rattle.decide.specs.declared.Limits.{Limits}
 use Rattle.decide.specs.declared.Decision.the-variants.{Steps}
 use Rattle.lockstep.specs.declared.Corners.{Corners}
-use Rattle.explorer.specs.Held.{Lists, groupOf, forksOf, usedOf, cornersIn, Held, moved, stepped, groupsLeft, work}
+use Rattle.explorer.specs.Held.{Lists, groupOf, forksOf, cornersIn, decisionOn, Held, moved, stepped, groupsLeft, work}
 use Rattle.explorer.specs.declared.Standing.{Standing}
 use Rattle.explorer.proofs.Stands.{stands, turned, lighter, work-running}
+use Rattle.corners.specs.Good.{Good, weight}
 
 -- one instruction further at both corners, where the group one step later is good
 pub corners-next : (j : Job) (b : Box) (n u : ℕ) (i : Instruction) → Good j (record { box = b; steps = n + 1; used = u })
@@ -42,44 +41,38 @@ module _ {j : Job} {m : Limits} {ps : List Path} {x : Lists} {s : Standing} (h :
   pub written-is : (i : Instruction) → writes (ltb (s .at .low .reads) (m .inputs)) i ≡ written j (groupOf x s) i
   written-is i = let w = stands h e in rw (w .reads, w .inputs)
 
-  module _ (i : Instruction) (d : decision (j .code) m (usedOf s) (s .at .low) (x .low) (x .high) ≡ Steps i) where
+  module _ (i : Instruction) (d : decisionOn (j .code) m x s ≡ Steps i) where
     turn : Turn j (running ps (groupOf x s) (forksOf x s))
         (running ps (later (groupOf x s) (written j (groupOf x s) i) (boxIn (x .lows) (x .highs))) (forksOf x s))
     turn = let k = says-steps (stands h e) d in straight (k .0) (k .1) (k .2)
 
-    pub straight-limits : (s .steps + 1 ≤ m .steps) × (8 * s .used ≤ length (x .table))
+    pub straight-limits : (s .steps + 1 ≤ m .steps) × (entryWords * s .used ≤ length (x .table))
     straight-limits =
-        let r = reached-represents (h .sound) (turned h e turn) .1 in
-        (omega (arith, within-limit j (h .sound) r, h .limit), omega (arith, r .room, h .room))
+        let r = reached-represents (h .fits .sound) (turned h e turn) .1 in
+        (omega (arith, within-limit j (h .fits .sound) r, h .fits .limit), omega (arith, r .entries-fit, h .fits .table-fits))
 
-    pub held-straight : (l c r o t w : List ℕ) (a : Corners)
-        → cornersIn (moved x l c r o t w) a ≡ advanced (x .lows) (x .highs) i (cornersIn x (s .at))
-        → Held j m ps (moved x l c r o t w) (stepped m s i a)
-    held-straight l c r o t w a q =
-        let g = reached-represents (h .sound) (turned h e turn) .1 .good in
+    pub held-straight : (y : Machines) (a : Corners)
+        → cornersIn (moved x y) a ≡ advanced (x .lows) (x .highs) i (cornersIn x (s .at))
+        → Held j m ps (moved x y) (stepped m s i a)
+    held-straight y a q =
+        let g = reached-represents (h .fits .sound) (turned h e turn) .1 .good in
         let f = says-steps (stands h e) d .1 in
         let b = boxIn (x .lows) (x .highs) in
         record {
-          sound = h .sound;
+          fits = h .fits;
           reached = rw (written-is i) (turned h e turn);
           corners = λ _. q
-              ∙ (λ k. advanced (sym (lows-in (x .lows) (x .highs) (h .paired)) k) (sym (highs-in (x .lows) (x .highs) (h .paired)) k) i
+              ∙ (λ k. advanced (sym (lows-in (x .lows) (x .highs) (h .fits .paired)) k) (sym (highs-in (x .lows) (x .highs) (h .fits .paired)) k) i
               (h .corners e k))
               ∙ corners-next j b (s .steps) _ i g f;
-          limit = h .limit;
-          entries = h .entries;
-          paired = h .paired;
-          inputs = h .inputs;
-          room = h .room;
           count = h .count;
         }
 
-    pub work-straight : (l c r o t w : List ℕ) (a : Corners) → s .going ≡ true → work j (moved x l c r o t w) (stepped m s i a) < work j x s
+    pub work-straight : (y : Machines) (a : Corners) → s .going ≡ true → work j (moved x y) (stepped m s i a) < work j x s
     unfolding stateOf
-    work-straight l c r o t w a g =
-        let y = moved x l c r o t w in
+    work-straight y a g =
         let z = stepped m s i a in
-        let v : weight j (groupsLeft j true (groupOf y z) (forksOf y z))
+        let v : weight j (groupsLeft j true (groupOf (moved x y) z) (forksOf (moved x y) z))
         ≡ weight j (stateOf j (running ps (later (groupOf x s) (written j (groupOf x s) i) (boxIn (x .lows) (x .highs))) (forksOf x s)) .waiting) =
         rw (written-is i) in
-        omega (arith, lighter h e turn, v, work-running j x s g e, work-running j y z refl refl)
+        omega (arith, lighter h e turn, v, work-running j x s g e, work-running j (moved x y) z refl refl)

@@ -1,11 +1,11 @@
 // A fork of the group at hand, and what is left of the latest fork taken up.
 use crate::Standing;
-use cuts::entries::Entry;
+use cuts::entries::note;
+use cuts::entries::rise;
 use cuts::entries::spend;
 use cuts::entries::top;
-use cuts::forking::narrow;
+use cuts::forking::part;
 use cuts::forking::set_interval;
-use cuts::forking::split;
 use cuts::hints::hint;
 use decide::Limits;
 use decide::classes::class_of;
@@ -19,16 +19,7 @@ use riscu::Instruction;
 use riscu::plain::Memory;
 use riscu::plain::Registers;
 use riscu::plain::fetch;
-ghost use mathlib.Core.Path.{_≡_};
-ghost use mathlib.Core.Bool.{true, false};
-ghost use mathlib.Core.Logic.{_≢_};
-ghost use Prim.Native.Nat.{_+_, _-_, _*_, _^_, _≤_, _<_};
-ghost use lib.ListN.{length, getD};
-ghost use Rattle.decide.specs.Corner.{machine, decision};
-ghost use Rattle.decide.specs.declared.Decision.the-variants.{Forks};
-ghost use Rattle.listing.specs.Group.{classOf};
-ghost use Rattle.cuts.specs.Cutting.{probed, Starts};
-ghost use Rattle.explorer.specs.Held.{lists, jobIn, usedOf, listed, latest, Held, TakenUp, work};
+ghost use Rattle.explorer.specs.Held.{jobAt, jobBefore, listsAt, listsBefore, listsAfter, AtFork, AtRest, GoesOn, Takeable, TakenUp};
 
 // Cuts the box at the fork, notes the rest in the table, and goes on below the cut.
 pub fn fork_on(
@@ -44,14 +35,15 @@ pub fn fork_on(
     high: &mut Registers,
     highmem: &mut Memory,
     tags: &mut Registers,
-    cells: &mut Memory,
+    tagmem: &mut Memory,
     i: Instruction,
     s: Standing,
 ) -> Standing
-    requires { ⌜ Held (jobIn (now code) (now memory) (now intervals) limits) limits (listed (jobIn (now code) (now memory) (now intervals) limits) s) (lists (now lows) (now highs) (now table) (now low) (now lowmem) (now high) (now highmem) (now tags) (now cells)) s ⌝ }
-    requires { ⌜ (s .running ≡ true) × (s .going ≡ true) × (decision (now code) limits (usedOf s) (s .at .low) (now low) (now high) ≡ Forks i) ⌝ }
-    ensures { λ r. ⌜ Held (jobIn (now (code .entry)) (now (memory .entry)) (now (intervals .entry)) limits) limits (listed (jobIn (now (code .entry)) (now (memory .entry)) (now (intervals .entry)) limits) s) (lists (now (lows .exit)) (now (highs .exit)) (now (table .exit)) (now (low .exit)) (now (lowmem .exit)) (now (high .exit)) (now (highmem .exit)) (now (tags .exit)) (now (cells .exit))) r ⌝ }
-    ensures { λ r. ⌜ (r .paths ≡ s .paths) × (r .going ≡ true) × (work (jobIn (now (code .entry)) (now (memory .entry)) (now (intervals .entry)) limits) (lists (now (lows .exit)) (now (highs .exit)) (now (table .exit)) (now (low .exit)) (now (lowmem .exit)) (now (high .exit)) (now (highmem .exit)) (now (tags .exit)) (now (cells .exit))) r < work (jobIn (now (code .entry)) (now (memory .entry)) (now (intervals .entry)) limits) (lists (now (lows .entry)) (now (highs .entry)) (now (table .entry)) (now (low .entry)) (now (lowmem .entry)) (now (high .entry)) (now (highmem .entry)) (now (tags .entry)) (now (cells .entry))) s) ⌝ }
+    requires { ⌜ AtFork (jobAt code memory intervals limits) limits (listsAt lows highs table low lowmem high highmem tags tagmem) s i ⌝ }
+    ensures { λ r.
+        let x = listsBefore lows highs table low lowmem high highmem tags tagmem in
+        let y = listsAfter lows highs table low lowmem high highmem tags tagmem in
+        ⌜ GoesOn (jobBefore code memory intervals limits) limits x s y r ⌝ }
 {
     let at = s.at;
     let w = writes(at.low.reads < limits.inputs, i);
@@ -64,22 +56,20 @@ pub fn fork_on(
     let lo = lows[input];
     let hi = highs[input];
     let guess = hint(i, low, high, lo, hi);
-    let edge = split(
+    let edge = part(
         code,
         memory,
         high,
         highmem,
         lows,
         highs,
-        table,
-        s.forks,
         input,
         class,
         guess,
         s.steps,
-        s.used,
         i,
     );
+    note(table, s.forks, input, lo, hi, edge, s.steps, s.used);
     let to = replay(
         code,
         memory,
@@ -89,7 +79,7 @@ pub fn fork_on(
         high,
         highmem,
         tags,
-        cells,
+        tagmem,
         lows,
         highs,
     );
@@ -117,41 +107,43 @@ fn take_rest(
     high: &mut Registers,
     highmem: &mut Memory,
     tags: &mut Registers,
-    cells: &mut Memory,
+    tagmem: &mut Memory,
     below: usize,
     input: usize,
     steps: usize,
     i: Instruction,
     at: Corners,
 ) -> Corners
-    requires { ⌜ (length (now lows) ≡ length (now highs)) × (input < length (now lows)) × (8 * below + 8 ≤ length (now table)) × (steps + 1 < 2 ^ 64) ⌝ }
-    requires { ⌜ (classOf i (machine (now low)) ≢ classOf i (machine (now high)) → Starts (probed (now code) (now memory) steps i (now lows) input) (classOf i (machine (now low))) (getD (now lows) input 0) (getD (now highs) input 0)) ⌝ }
-    ensures { λ r. ⌜ TakenUp (now (code .entry)) (now (memory .entry)) i below input steps (lists (now (lows .entry)) (now (highs .entry)) (now (table .entry)) (now (low .entry)) (now (lowmem .entry)) (now (high .entry)) (now (highmem .entry)) (now (tags .entry)) (now (cells .entry))) at (lists (now (lows .exit)) (now (highs .exit)) (now (table .exit)) (now (low .exit)) (now (lowmem .exit)) (now (high .exit)) (now (highmem .exit)) (now (tags .exit)) (now (cells .exit))) r ⌝ }
+    requires { let x = listsAt lows highs table low lowmem high highmem tags tagmem in
+        ⌜ Takeable (now code) (now memory) i below input steps x ⌝ }
+    ensures { λ r.
+        let x = listsBefore lows highs table low lowmem high highmem tags tagmem in
+        let y = listsAfter lows highs table low lowmem high highmem tags tagmem in
+        ⌜ TakenUp (now (code .entry)) (now (memory .entry)) i below input steps x at y r ⌝ }
 {
     let a = class_of(i, low);
     let b = class_of(i, high);
     if a == b {
         spend(table, below);
-        return advance(i, low, lowmem, high, highmem, tags, cells, lows, highs, at);
+        return advance(i, low, lowmem, high, highmem, tags, tagmem, lows, highs, at);
     }
     let lo = lows[input];
     let hi = highs[input];
     let guess = hint(i, low, high, lo, hi);
-    let edge = narrow(
+    let edge = part(
         code,
         memory,
         high,
         highmem,
         lows,
         highs,
-        table,
-        below,
         input,
         a,
         guess,
         steps,
         i,
     );
+    rise(table, below, edge, hi);
     replay(
         code,
         memory,
@@ -161,7 +153,7 @@ fn take_rest(
         high,
         highmem,
         tags,
-        cells,
+        tagmem,
         lows,
         highs,
     )
@@ -181,13 +173,14 @@ pub fn resume(
     high: &mut Registers,
     highmem: &mut Memory,
     tags: &mut Registers,
-    cells: &mut Memory,
+    tagmem: &mut Memory,
     s: Standing,
 ) -> Standing
-    requires { ⌜ Held (jobIn (now code) (now memory) (now intervals) limits) limits (listed (jobIn (now code) (now memory) (now intervals) limits) s) (lists (now lows) (now highs) (now table) (now low) (now lowmem) (now high) (now highmem) (now tags) (now cells)) s ⌝ }
-    requires { ⌜ (s .running ≡ false) × (s .going ≡ true) × (0 < s .forks) × (latest (lists (now lows) (now highs) (now table) (now low) (now lowmem) (now high) (now highmem) (now tags) (now cells)) s .spent ≡ false) ⌝ }
-    ensures { λ r. ⌜ Held (jobIn (now (code .entry)) (now (memory .entry)) (now (intervals .entry)) limits) limits (listed (jobIn (now (code .entry)) (now (memory .entry)) (now (intervals .entry)) limits) s) (lists (now (lows .exit)) (now (highs .exit)) (now (table .exit)) (now (low .exit)) (now (lowmem .exit)) (now (high .exit)) (now (highmem .exit)) (now (tags .exit)) (now (cells .exit))) r ⌝ }
-    ensures { λ r. ⌜ (r .paths ≡ s .paths) × (r .going ≡ true) × (work (jobIn (now (code .entry)) (now (memory .entry)) (now (intervals .entry)) limits) (lists (now (lows .exit)) (now (highs .exit)) (now (table .exit)) (now (low .exit)) (now (lowmem .exit)) (now (high .exit)) (now (highmem .exit)) (now (tags .exit)) (now (cells .exit))) r < work (jobIn (now (code .entry)) (now (memory .entry)) (now (intervals .entry)) limits) (lists (now (lows .entry)) (now (highs .entry)) (now (table .entry)) (now (low .entry)) (now (lowmem .entry)) (now (high .entry)) (now (highmem .entry)) (now (tags .entry)) (now (cells .entry))) s) ⌝ }
+    requires { ⌜ AtRest (jobAt code memory intervals limits) limits (listsAt lows highs table low lowmem high highmem tags tagmem) s ⌝ }
+    ensures { λ r.
+        let x = listsBefore lows highs table low lowmem high highmem tags tagmem in
+        let y = listsAfter lows highs table low lowmem high highmem tags tagmem in
+        ⌜ GoesOn (jobBefore code memory intervals limits) limits x s y r ⌝ }
 {
     let below = s.forks - 1;
     let f = top(table, below);
@@ -202,7 +195,7 @@ pub fn resume(
         high,
         highmem,
         tags,
-        cells,
+        tagmem,
         lows,
         highs,
     );
@@ -225,7 +218,7 @@ pub fn resume(
         high,
         highmem,
         tags,
-        cells,
+        tagmem,
         below,
         input,
         f.steps,

@@ -2,29 +2,30 @@
 use crate::Standing;
 use crate::Window;
 use crate::turns::run_turns;
+use blocks::MOST_INPUTS;
 use blocks::PATH_BYTES;
-use blocks::ROOM;
 use blocks::block::word_or_zero;
 use calls::Answer;
+use calls::questions::ENTRY_WORDS;
 use cuts::entries::clear;
 use decide::Limits;
 use lockstep::together::replay;
 use riscu::plain::Machine;
 use riscu::plain::Memory;
 ghost use mathlib.Core.Path.{_≡_};
-ghost use mathlib.Core.List.{map};
 ghost use mathlib.Core.Option.{none};
 ghost use Prim.Native.Nat.{_-_, _<_};
-ghost use lib.ListN.{length, getD};
+ghost use lib.ListN.{length};
+ghost use Rattle.riscu.specs.Limits.{memoryWords};
 ghost use Rattle.boxes.specs.Boxes.{from};
-ghost use Rattle.blocks.specs.Record.{room};
-ghost use Rattle.calls.specs.Call.{callOf, door, left, called};
-ghost use Rattle.explorer.specs.Held.{jobIn};
+ghost use Rattle.calls.specs.Call.{callOf, refusalOf, left};
+ghost use Rattle.calls.specs.Border.{callLent, calledOn};
+ghost use Rattle.explorer.specs.Held.{jobAt, jobBefore};
 ghost use Rattle.explorer.specs.Finished.{endsOf, Begins, Finished};
 
 // The lent memory, which is never written.
 fn copied(memory: &[u64]) -> Memory
-    requires { ⌜ length (now memory) ≡ 512 ⌝ }
+    requires { ⌜ length (now memory) ≡ memoryWords ⌝ }
     ensures { λ r. ⌜ r ≡ now (memory .entry) ⌝ }
 {
     let mut words = [0u64; Machine::MEMORY_WORDS];
@@ -37,13 +38,13 @@ fn copied(memory: &[u64]) -> Memory
 }
 
 // The lows of the intervals, side being 0, or their highs, side being 1; 0 where there are none.
-fn ends(intervals: &[u64], side: usize) -> [u64; ROOM]
+fn ends(intervals: &[u64], side: usize) -> [u64; MOST_INPUTS]
     requires { ⌜ side < 2 ⌝ }
     ensures { λ r. ⌜ r ≡ endsOf side (now (intervals .entry)) ⌝ }
 {
-    let mut words = [0u64; ROOM];
+    let mut words = [0u64; MOST_INPUTS];
     let mut k: usize = 0;
-    while k < ROOM {
+    while k < MOST_INPUTS {
         words[k] = word_or_zero(intervals, 2 * k + side);
         k += 1;
     }
@@ -62,15 +63,17 @@ fn explore_box(
     table: &mut [u64],
     report: &mut [u8],
 ) -> Standing
-    requires { ⌜ Begins (jobIn (now code) (now memory) (now intervals) limits) limits window (now lows) (now highs) (now table) (now report) ⌝ }
-    ensures { λ r. ⌜ Finished (jobIn (now (code .entry)) (now (memory .entry)) (now (intervals .entry)) limits) (callOf (now (code .entry)) (now (intervals .entry)) (limits .steps) (now (report .entry)) (window .first)) (now (report .exit)) r ⌝ }
+    requires { ⌜ Begins (jobAt code memory intervals limits) limits window (now lows) (now highs) (now table) (now report) ⌝ }
+    ensures { λ r.
+        let c = callOf (now (code .entry)) (now (intervals .entry)) (limits .steps) (now (report .entry)) (window .first) in
+        ⌜ Finished (jobBefore code memory intervals limits) c (now (report .exit)) r ⌝ }
 {
     let mut low = [0u64; 32];
     let mut high = [0u64; 32];
     let mut tags = [0u64; 32];
-    let mut lowmem = [0u64; 512];
-    let mut highmem = [0u64; 512];
-    let mut cells = [0u64; 512];
+    let mut lowmem = [0u64; Machine::MEMORY_WORDS];
+    let mut highmem = [0u64; Machine::MEMORY_WORDS];
+    let mut tagmem = [0u64; Machine::MEMORY_WORDS];
     let at = replay(
         code,
         memory,
@@ -80,7 +83,7 @@ fn explore_box(
         &mut high,
         &mut highmem,
         &mut tags,
-        &mut cells,
+        &mut tagmem,
         lows,
         highs,
     );
@@ -109,7 +112,7 @@ fn explore_box(
         &mut high,
         &mut highmem,
         &mut tags,
-        &mut cells,
+        &mut tagmem,
         from,
     )
 }
@@ -121,7 +124,7 @@ fn past(paths: u64, first: u64) -> u64
     if paths < first { 0 } else { paths - first }
 }
 
-// A call that passed the questions at the door.
+// A call that passed the questions.
 pub fn accepted(
     code: &[u32],
     memory: &[u64],
@@ -131,8 +134,12 @@ pub fn accepted(
     report: &mut [u8],
     first: u64,
 ) -> Answer
-    requires { ⌜ door (now memory) (length (now table)) (callOf (now code) (now intervals) limit (now report) first) ≡ none ⌝ }
-    ensures { λ r. ⌜ left r (now (report .exit)) (now (table .exit)) (now (memory .entry)) ≡ called (now (memory .entry)) (now (table .entry)) (callOf (now (code .entry)) (now (intervals .entry)) limit (now (report .entry)) first) ⌝ }
+    requires { let c = callOf (now code) (now intervals) limit (now report) first in
+        ⌜ refusalOf (now memory) (length (now table)) c ≡ none ⌝ }
+    ensures { λ r.
+        let c = callLent code intervals limit report first in
+        let l = left r (now (report .exit)) (now (table .exit)) (now (memory .entry)) in
+        ⌜ l ≡ calledOn memory table c ⌝ }
 {
     let held = copied(memory);
     let mut lows = ends(intervals, 0);
@@ -140,13 +147,13 @@ pub fn accepted(
     let n = intervals.len() / 2;
     let limits = Limits {
         steps: limit as usize,
-        entries: table.len() / 8,
+        entries: table.len() / ENTRY_WORDS,
         inputs: n,
     };
-    let room = (report.len() / PATH_BYTES) as u64;
+    let places = (report.len() / PATH_BYTES) as u64;
     let window = Window {
         first,
-        end: first + room,
+        end: first + places,
     };
     let s = explore_box(
         code,

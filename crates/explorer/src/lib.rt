@@ -1,12 +1,12 @@
-// The exploration of a lent job: the questions at the door, the turns at the two corners of the current box, and the call itself.
+// The exploration of a lent job: the questions, the turns at the two corners of the current box, and the call itself.
 // Each turn is a move of document 01's plain listing with the straight steps before it, or takes up the next rest of the latest fork.
 // What a call leaves is one equation with the definition of a call: its answer, every byte of the report, the table and memory.
-pub mod border;
-pub mod branching;
-pub mod exploring;
-pub mod pages;
-pub mod running;
-pub mod turns;
+mod branching;
+pub mod call;
+mod exploring;
+mod pages;
+mod running;
+mod turns;
 
 use lockstep::Corners;
 
@@ -23,7 +23,7 @@ pub struct Standing {
     pub at: Corners,
 }
 
-// The numbers of the paths that a page has room for: from the first wanted to below the end.
+// The numbers of the paths that a page has places for: from the first wanted to below the end.
 pub struct Window {
     pub first: u64,
     pub end: u64,

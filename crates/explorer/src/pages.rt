@@ -11,8 +11,8 @@ use riscu::plain::register;
 ghost use mathlib.Core.Path.{_≡_};
 ghost use Prim.Native.Nat.{_+_, _-_, _*_, _≤_, _<_, max};
 ghost use lib.ListN.{length};
-ghost use Rattle.blocks.specs.Record.{room, pathBytes};
-ghost use Rattle.explorer.specs.Explored.{leasts, greatests, endedPath, withPath, filled};
+ghost use Rattle.blocks.specs.Record.{mostInputs, recordBytes};
+ghost use Rattle.explorer.specs.Explored.{leasts, greatests, endedPath, pageWith, filled};
 
 fn greatest(a: u64, b: u64) -> u64
     ensures { λ r. ⌜ r ≡ max a b ⌝ }
@@ -26,8 +26,9 @@ pub struct Extremes {
     pub greater: Registers,
 }
 
-pub fn bounds(low: &Registers, high: &Registers) -> Extremes
-    ensures { λ r. ⌜ (r .lesser ≡ leasts (now (low .entry)) (now (high .entry))) × (r .greater ≡ greatests (now (low .entry)) (now (high .entry))) ⌝ }
+fn bounds(low: &Registers, high: &Registers) -> Extremes
+    ensures { λ r. ⌜ r .lesser ≡ leasts (now (low .entry)) (now (high .entry)) ⌝ }
+    ensures { λ r. ⌜ r .greater ≡ greatests (now (low .entry)) (now (high .entry)) ⌝ }
 {
     let mut lesser = [0u64; 32];
     let mut greater = [0u64; 32];
@@ -53,8 +54,11 @@ pub fn write_path(
     high: &Registers,
     s: Standing,
 )
-    requires { ⌜ (length (now lows) ≤ room) × (length (now lows) ≡ length (now highs)) × (filled window s + pathBytes ≤ length (now report)) ⌝ }
-    ensures { λ _. ⌜ now (report .exit) ≡ withPath window s (endedPath (now (lows .entry)) (now (highs .entry)) (now (low .entry)) (now (high .entry)) s end) (now (report .entry)) ⌝ }
+    requires { ⌜ (length (now lows) ≤ mostInputs) × (length (now lows) ≡ length (now highs)) ⌝ }
+    requires { ⌜ filled (length (now lows)) window s + recordBytes (length (now lows)) ≤ length (now report) ⌝ }
+    ensures { λ _.
+        let p = endedPath (now (lows .entry)) (now (highs .entry)) (now (low .entry)) (now (high .entry)) s end in
+        ⌜ now (report .exit) ≡ pageWith window s p (now (report .entry)) ⌝ }
 {
     if s.paths < window.first {
         return;

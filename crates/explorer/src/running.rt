@@ -6,12 +6,8 @@ use riscu::plain::Memory;
 use riscu::plain::Registers;
 use straight::Straight;
 use straight::steps::straight_step;
-ghost use Prim.Native.Nat.{_≤_};
-ghost use Rattle.lockstep.specs.Together.{both};
+ghost use Rattle.lockstep.specs.Together.{machinesBefore, machinesAfter};
 ghost use Rattle.explorer.specs.Explored.{RunsOn};
-
-// So many steps at the most, so that the loop ends whatever the limits.
-const STRAIGHT_STEPS: usize = 65536;
 
 // Straight steps one after another. How many it takes is free: the turn that it stands in asks the whole decision next.
 pub fn run_straight(
@@ -22,15 +18,16 @@ pub fn run_straight(
     high: &mut Registers,
     highmem: &mut Memory,
     tags: &mut Registers,
-    cells: &mut Memory,
+    tagmem: &mut Memory,
     from: Standing,
 ) -> Standing
-    requires { ⌜ from .steps ≤ limits .steps ⌝ }
-    ensures { λ r. ⌜ RunsOn (now (code .entry)) limits from (both (from .at) (now (low .entry)) (now (lowmem .entry)) (now (high .entry)) (now (highmem .entry)) (now (tags .entry)) (now (cells .entry))) r (both (r .at) (now (low .exit)) (now (lowmem .exit)) (now (high .exit)) (now (highmem .exit)) (now (tags .exit)) (now (cells .exit))) ⌝ }
+    ensures { λ r.
+        let x = machinesBefore low lowmem high highmem tags tagmem in
+        let y = machinesAfter low lowmem high highmem tags tagmem in
+        ⌜ RunsOn (now (code .entry)) limits from x r y ⌝ }
 {
     let mut s = from;
-    let mut k: usize = 0;
-    while k < STRAIGHT_STEPS {
+    while s.steps < limits.steps {
         let used = Used {
             steps: s.steps,
             entries: s.used,
@@ -44,7 +41,7 @@ pub fn run_straight(
             high,
             highmem,
             tags,
-            cells,
+            tagmem,
             s.at,
         );
         let Straight::Taken { at, writes } = t else {
@@ -61,7 +58,6 @@ pub fn run_straight(
             at,
         };
         s = to;
-        k += 1;
     }
     s
 }

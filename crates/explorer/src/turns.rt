@@ -18,11 +18,11 @@ use riscu::plain::Memory;
 use riscu::plain::Registers;
 ghost use mathlib.Core.Path.{_≡_};
 ghost use mathlib.Core.Bool.{true, false};
-ghost use Prim.Native.Nat.{_+_, _≤_, _<_, _^_};
+ghost use Prim.Native.Nat.{_+_, _<_, _^_};
 ghost use lib.ListN.{drop};
-ghost use Rattle.lockstep.specs.Together.{both, advanced};
-ghost use Rattle.explorer.specs.Held.{lists, jobIn, stepped, work};
-ghost use Rattle.explorer.specs.Explored.{filled, Explored, halted};
+ghost use Rattle.lockstep.specs.Together.{both, machinesBefore, machinesAfter, advanced};
+ghost use Rattle.explorer.specs.Held.{jobAt, jobBefore, listsAt, listsBefore, listsAfter, stepped};
+ghost use Rattle.explorer.specs.Explored.{filled, Explored, Going, Turned, halted};
 
 // One instruction further at both corners.
 fn step_on(
@@ -34,16 +34,20 @@ fn step_on(
     high: &mut Registers,
     highmem: &mut Memory,
     tags: &mut Registers,
-    cells: &mut Memory,
+    tagmem: &mut Memory,
     i: Instruction,
     s: Standing,
 ) -> Standing
     requires { ⌜ (s .steps + 1 < 2 ^ 64) × (s .used + 2 < 2 ^ 64) ⌝ }
-    ensures { λ r. ⌜ (r ≡ stepped limits s i (r .at)) × (both (r .at) (now (low .exit)) (now (lowmem .exit)) (now (high .exit)) (now (highmem .exit)) (now (tags .exit)) (now (cells .exit)) ≡ advanced (now (lows .entry)) (now (highs .entry)) i (both (s .at) (now (low .entry)) (now (lowmem .entry)) (now (high .entry)) (now (highmem .entry)) (now (tags .entry)) (now (cells .entry)))) ⌝ }
+    ensures { λ r. ⌜ r ≡ stepped limits s i (r .at) ⌝ }
+    ensures { λ r.
+        let x = machinesBefore low lowmem high highmem tags tagmem in
+        let y = machinesAfter low lowmem high highmem tags tagmem in
+        ⌜ both (r .at) y ≡ advanced (now (lows .entry)) (now (highs .entry)) i (both (s .at) x) ⌝ }
 {
     let at = s.at;
     let w = writes(at.low.reads < limits.inputs, i);
-    let to = advance(i, low, lowmem, high, highmem, tags, cells, lows, highs, at);
+    let to = advance(i, low, lowmem, high, highmem, tags, tagmem, lows, highs, at);
     Standing {
         going: true,
         running: true,
@@ -72,13 +76,16 @@ fn group_turn(
     high: &mut Registers,
     highmem: &mut Memory,
     tags: &mut Registers,
-    cells: &mut Memory,
+    tagmem: &mut Memory,
     s: Standing,
 ) -> Standing
-    requires { ⌜ Explored (jobIn (now code) (now memory) (now intervals) limits) limits window (lists (now lows) (now highs) (now table) (now low) (now lowmem) (now high) (now highmem) (now tags) (now cells)) (now report) s × (s .going ≡ true) ⌝ }
+    requires { let x = listsAt lows highs table low lowmem high highmem tags tagmem in
+        ⌜ Going (jobAt code memory intervals limits) limits window x (now report) s ⌝ }
     requires { ⌜ s .running ≡ true ⌝ }
-    ensures { λ r. ⌜ Explored (jobIn (now (code .entry)) (now (memory .entry)) (now (intervals .entry)) limits) limits window (lists (now (lows .exit)) (now (highs .exit)) (now (table .exit)) (now (low .exit)) (now (lowmem .exit)) (now (high .exit)) (now (highmem .exit)) (now (tags .exit)) (now (cells .exit))) (now (report .exit)) r × (work (jobIn (now (code .entry)) (now (memory .entry)) (now (intervals .entry)) limits) (lists (now (lows .exit)) (now (highs .exit)) (now (table .exit)) (now (low .exit)) (now (lowmem .exit)) (now (high .exit)) (now (highmem .exit)) (now (tags .exit)) (now (cells .exit))) r < work (jobIn (now (code .entry)) (now (memory .entry)) (now (intervals .entry)) limits) (lists (now (lows .entry)) (now (highs .entry)) (now (table .entry)) (now (low .entry)) (now (lowmem .entry)) (now (high .entry)) (now (highmem .entry)) (now (tags .entry)) (now (cells .entry))) s) ⌝ }
-    ensures { λ r. ⌜ (s .paths ≤ r .paths) × (drop (filled window r) (now (report .exit)) ≡ drop (filled window r) (now (report .entry))) ⌝ }
+    ensures { λ r.
+        let x = listsBefore lows highs table low lowmem high highmem tags tagmem in
+        let y = listsAfter lows highs table low lowmem high highmem tags tagmem in
+        ⌜ Turned (jobBefore code memory intervals limits) limits window x (now (report .entry)) s y (now (report .exit)) r ⌝ }
 {
     let at = s.at;
     let used = Used {
@@ -109,7 +116,7 @@ fn group_turn(
             high,
             highmem,
             tags,
-            cells,
+            tagmem,
             i,
             s,
         ),
@@ -126,7 +133,7 @@ fn group_turn(
             high,
             highmem,
             tags,
-            cells,
+            tagmem,
             i,
             s,
         ),
@@ -167,15 +174,18 @@ fn turn(
     high: &mut Registers,
     highmem: &mut Memory,
     tags: &mut Registers,
-    cells: &mut Memory,
+    tagmem: &mut Memory,
     s: Standing,
 ) -> Standing
-    requires { ⌜ Explored (jobIn (now code) (now memory) (now intervals) limits) limits window (lists (now lows) (now highs) (now table) (now low) (now lowmem) (now high) (now highmem) (now tags) (now cells)) (now report) s × (s .going ≡ true) ⌝ }
-    ensures { λ r. ⌜ Explored (jobIn (now (code .entry)) (now (memory .entry)) (now (intervals .entry)) limits) limits window (lists (now (lows .exit)) (now (highs .exit)) (now (table .exit)) (now (low .exit)) (now (lowmem .exit)) (now (high .exit)) (now (highmem .exit)) (now (tags .exit)) (now (cells .exit))) (now (report .exit)) r × (work (jobIn (now (code .entry)) (now (memory .entry)) (now (intervals .entry)) limits) (lists (now (lows .exit)) (now (highs .exit)) (now (table .exit)) (now (low .exit)) (now (lowmem .exit)) (now (high .exit)) (now (highmem .exit)) (now (tags .exit)) (now (cells .exit))) r < work (jobIn (now (code .entry)) (now (memory .entry)) (now (intervals .entry)) limits) (lists (now (lows .entry)) (now (highs .entry)) (now (table .entry)) (now (low .entry)) (now (lowmem .entry)) (now (high .entry)) (now (highmem .entry)) (now (tags .entry)) (now (cells .entry))) s) ⌝ }
-    ensures { λ r. ⌜ (s .paths ≤ r .paths) × (drop (filled window r) (now (report .exit)) ≡ drop (filled window r) (now (report .entry))) ⌝ }
+    requires { let x = listsAt lows highs table low lowmem high highmem tags tagmem in
+        ⌜ Going (jobAt code memory intervals limits) limits window x (now report) s ⌝ }
+    ensures { λ r.
+        let x = listsBefore lows highs table low lowmem high highmem tags tagmem in
+        let y = listsAfter lows highs table low lowmem high highmem tags tagmem in
+        ⌜ Turned (jobBefore code memory intervals limits) limits window x (now (report .entry)) s y (now (report .exit)) r ⌝ }
 {
     if s.running {
-        let to = run_straight(code, limits, low, lowmem, high, highmem, tags, cells, s);
+        let to = run_straight(code, limits, low, lowmem, high, highmem, tags, tagmem, s);
         return group_turn(
             code,
             memory,
@@ -191,7 +201,7 @@ fn turn(
             high,
             highmem,
             tags,
-            cells,
+            tagmem,
             to,
         );
     }
@@ -231,7 +241,7 @@ fn turn(
         high,
         highmem,
         tags,
-        cells,
+        tagmem,
         s,
     )
 }
@@ -252,12 +262,16 @@ pub fn run_turns(
     high: &mut Registers,
     highmem: &mut Memory,
     tags: &mut Registers,
-    cells: &mut Memory,
+    tagmem: &mut Memory,
     from: Standing,
 ) -> Standing
-    requires { ⌜ Explored (jobIn (now code) (now memory) (now intervals) limits) limits window (lists (now lows) (now highs) (now table) (now low) (now lowmem) (now high) (now highmem) (now tags) (now cells)) (now report) from ⌝ }
-    ensures { λ r. ⌜ Explored (jobIn (now (code .entry)) (now (memory .entry)) (now (intervals .entry)) limits) limits window (lists (now (lows .exit)) (now (highs .exit)) (now (table .exit)) (now (low .exit)) (now (lowmem .exit)) (now (high .exit)) (now (highmem .exit)) (now (tags .exit)) (now (cells .exit))) (now (report .exit)) r × (r .going ≡ false) ⌝ }
-    ensures { λ r. ⌜ drop (filled window r) (now (report .exit)) ≡ drop (filled window r) (now (report .entry)) ⌝ }
+    requires { let x = listsAt lows highs table low lowmem high highmem tags tagmem in
+        ⌜ Explored (jobAt code memory intervals limits) limits window x (now report) from ⌝ }
+    ensures { λ r.
+        let y = listsAfter lows highs table low lowmem high highmem tags tagmem in
+        ⌜ Explored (jobBefore code memory intervals limits) limits window y (now (report .exit)) r ⌝ }
+    ensures { λ r. ⌜ r .going ≡ false ⌝ }
+    ensures { λ r. ⌜ drop (filled (limits .inputs) window r) (now (report .exit)) ≡ drop (filled (limits .inputs) window r) (now (report .entry)) ⌝ }
 {
     let mut s = from;
     while s.going {
@@ -276,7 +290,7 @@ pub fn run_turns(
             high,
             highmem,
             tags,
-            cells,
+            tagmem,
             s,
         );
     }

@@ -11,30 +11,30 @@ use lib.Seq.{take-all, take-at, drop-append-le}
 use borrow.Author.Tests.{lt-ltb, le-ltb}
 use Rattle.listing.specs.Group.{Job, Group}
 use Rattle.listing.specs.Listing.{Path, listing}
-use Rattle.corners.proofs.Uniform.{Sound}
-use Rattle.blocks.specs.Record.{pathBytes}
-use Rattle.calls.specs.Call.{Call, page}
+use Rattle.blocks.specs.Record.{recordBytes}
+use Rattle.calls.specs.Call.{Call, inputsOf, page}
 use Rattle.forks.specs.Stack.{Fork, Resting}
 use Rattle.forks.proofs.Positions.{paths-first, more, finish}
 use Rattle.forks.proofs.Turns.{rest-waits}
+use Rattle.corners.specs.Good.{Sound}
 
 module _ (j : Job) (sound : Sound j (j .box)) (c : Call) {n : ℕ} {ps : List Path} {g : Group} where
-  pub page-ended : Resting j n ps g [] → length ps ≤ c .first + length (c .report) / pathBytes
+  pub page-ended : Resting j n ps g [] → length ps ≤ c .first + length (c .report) / recordBytes (inputsOf c)
       → (page j c ≡ drop (c .first) ps) × (ltb (c .first + length (drop (c .first) ps)) (length (listing j)) ≡ false)
   unfolding page
   page-ended r l =
       let e = finish j sound r in (
-        rw e (take-all (length (c .report) / pathBytes) (drop (c .first) ps) (rw length-drop (omega arith))),
+        rw e (take-all (length (c .report) / recordBytes (inputsOf c)) (drop (c .first) ps) (rw length-drop (omega arith))),
         rw (e, length-drop) (le-ltb (c .first + (length ps - c .first)) (length ps) (omega arith)),
       )
 
   pub page-full : {f : Fork} {fs : List Fork} → Resting j n ps g (f ∷ fs) → f .spent ≡ false
-      → length ps ≡ c .first + length (c .report) / pathBytes
+      → length ps ≡ c .first + length (c .report) / recordBytes (inputsOf c)
       → (page j c ≡ drop (c .first) ps) × (ltb (c .first + length (drop (c .first) ps)) (length (listing j)) ≡ true)
   unfolding page
   page-full r t l =
       let (rest, e) = paths-first j sound n (rest-waits r t) .0 in (
         rw (e, drop-append-le (c .first) ps rest (omega arith))
-            (take-at (drop (c .first) ps) rest (length (c .report) / pathBytes) (rw length-drop (omega arith))),
+            (take-at (drop (c .first) ps) rest (length (c .report) / recordBytes (inputsOf c)) (rw length-drop (omega arith))),
         rw length-drop (lt-ltb (c .first + (length ps - c .first)) (length (listing j)) (omega (arith, more j sound r t))),
       )

@@ -11,10 +11,12 @@ use Rattle.riscu.specs.declared.Instruction.{Instruction}
 use Rattle.riscu.specs.declared.Decoded.the-variants.{Row}
 use Rattle.listing.specs.Group.{Job, Group, after, classOf}
 use Rattle.listing.specs.Listing.{later}
-use Rattle.corners.proofs.Smooth.{Followed, smooth-within}
-use Rattle.corners.proofs.Corner.{Good, lowState, good-uniform}
+use Rattle.corners.proofs.Smooth.{smooth-within}
+use Rattle.corners.proofs.Corner.{good-uniform}
 use Rattle.corners.proofs.Moves.{sound-part}
 use Rattle.forks.specs.Stack.{written, restBy, restOf}
+use Rattle.corners.specs.Smooth.{Followed}
+use Rattle.corners.specs.Good.{Good, lowState}
 
 -- a group on another box
 abbrev pub onBox : Group → Box → Group

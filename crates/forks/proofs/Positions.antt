@@ -16,10 +16,9 @@ use Rattle.listing.specs.Group.{Job, Group, viewOf, classOf}
 use Rattle.listing.specs.Ending.{endBy}
 use Rattle.listing.specs.declared.End.{End}
 use Rattle.listing.specs.Listing.{Path, Progress, progress, moves, listing, whole}
-use Rattle.corners.proofs.Uniform.{Sound}
-use Rattle.corners.proofs.Corner.{lowState, highState, cornersOf, end-agrees}
+use Rattle.corners.proofs.Corner.{end-agrees}
 use Rattle.corners.proofs.Moves.{continues}
-use Rattle.corners.proofs.Enough.{weight, weight-falls, steps-in-limit}
+use Rattle.corners.proofs.Enough.{weight-falls, steps-in-limit}
 use Rattle.corners.proofs.CornerListing.{corner-moves, listing-is}
 use Rattle.paths.proofs.Pages.{listing-further}
 use Rattle.forks.specs.Stack.{Fork, before, left, waitingOf, Stacked, Running, Resting}
@@ -29,6 +28,7 @@ use Rattle.forks.specs.Turn.{stateOf, movesAfter, Represents}
 use Rattle.forks.proofs.Turns.{starts, ends, goes-straight, goes-forking, drops, takes-whole, takes-first, now-one, known-fork}
 use Rattle.forks.proofs.Turns.{rest-within, rest-proper, rest-one, rest-waits, rest-some}
 use Rattle.forks.proofs.Parts.{fetched-part}
+use Rattle.corners.specs.Good.{Sound, lowState, highState, cornersOf, weight}
 
 -- the tie: a step of the explorer leads from a state of the listing to a state of the listing
 pub turn-represents : {j : Job} {s t : Position} (n : ℕ) → Turn j s t → Represents j n s → Represents j (movesAfter s n) t

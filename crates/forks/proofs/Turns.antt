@@ -28,16 +28,15 @@ use Rattle.listing.specs.Group.{Job, Group, viewOf, classOf}
 use Rattle.listing.specs.Ending.{needs, endBy, endOf}
 use Rattle.listing.specs.Listing.{Path, progress, later, pathOf, splitBy, moveBy, moveFrom, moves, begin, whole}
 use Rattle.listing.specs.declared.End.{End}
-use Rattle.corners.proofs.Tame.{Same}
-use Rattle.corners.proofs.Smooth.{Followed}
-use Rattle.corners.proofs.Uniform.{Sound}
-use Rattle.corners.proofs.Corner.{Good, lowState, highState, inputOf, cornersOf, class-one, end-agrees}
+use Rattle.corners.proofs.Corner.{class-one, end-agrees}
 use Rattle.corners.proofs.Moves.{continues, followed, good-later}
 use Rattle.corners.proofs.CornerListing.{path-agrees}
 use Rattle.forks.specs.Stack.{Fork, before, left, forkAt, restAt, shorten, spend, written, restBy, restOf, waitingOf, Forked, Stacked}
 use Rattle.forks.specs.Stack.{Running, Resting}
 use Rattle.forks.specs.Turn.{classAt, Fetches, OneClass, EdgeAt, Cuttable}
 use Rattle.forks.proofs.Parts.{good-part, written-part, fetched-part, rest-part}
+use Rattle.corners.specs.Smooth.{Same, Followed}
+use Rattle.corners.specs.Good.{Sound, Good, lowState, highState, inputOf, cornersOf}
 
 -- the class is the same all over where it is at the corners, and below an edge; the corners differ where there is an edge
 
@@ -86,7 +85,7 @@ stacked-on j (f ∷ fs) g m v l (k, s) = (
     from-low = k .from-low;
     to-high = k .to-high;
     counted = omega (arith, k .counted);
-    room = k .room;
+    entries-fit = k .entries-fit;
   },
   s,
 )
@@ -97,7 +96,7 @@ unfolding moves begin waitingOf
 starts j s = record {
   moved = refl;
   good = record { sound = s; smooth = λ x l. absurd (omega arith) };
-  room = omega arith;
+  entries-fit = omega arith;
   stacked = tt;
 }
 
@@ -124,7 +123,7 @@ module _ {j : Job} {n : ℕ} {ps : List Path} {g : Group} {fs : List Fork} (r : 
         let k = continues j g goes-on in
         let e : k .instruction ≡ i = cc (k .fetched) in
         subst (λ (x : Instruction). Followed j (g .box) (g .steps) x × (needs g (viewOf j g) x ≤ j .entries - g .used)) e
-        (followed j g (r .good) k, k .room)
+        (followed j g (r .good) k, k .entries-fit)
 
     pub now-one : OneInput (g .box) (inputOf j g i) (classAt j (g .steps) i)
     now-one = class-one j g (r .good) i (known .0 .settled)
@@ -136,8 +135,8 @@ module _ {j : Job} {n : ℕ} {ps : List Path} {g : Group} {fs : List Fork} (r : 
     unfolding needs
     needs-are = rw (pieces-fork (g .box) (r .good .sound .proper) now-one)
 
-    room-left : g .used + needs g (viewOf j g) i ≤ j .entries
-    room-left = omega (arith, known .1, r .room)
+    entries-left : g .used + needs g (viewOf j g) i ≤ j .entries
+    entries-left = omega (arith, known .1, r .entries-fit)
 
     split : moves viewOf j (suc n)
         ≡ progress ps (map (later g (needs g (viewOf j g) i)) (pieces (classAt j (g .steps) i) (g .box)) ++ waitingOf j fs (g .box))
@@ -154,7 +153,7 @@ module _ {j : Job} {n : ℕ} {ps : List Path} {g : Group} {fs : List Fork} (r : 
         record {
           moved = split ∙ rw (w, pieces-one (classAt j (g .steps) i) (g .box) p (constant-corner (g .box) p now-one e));
           good = good-later j g (r .good) (g .box) (λ c m. m) p (known .0) s (written j g i);
-          room = rw w at room-left;
+          entries-fit = rw w at entries-left;
           stacked = stacked-on j fs g _ _ (omega arith) (r .stacked);
         }
 
@@ -187,7 +186,7 @@ module _ {j : Job} {n : ℕ} {ps : List Path} {g : Group} {fs : List Fork} (r : 
           good =
               good-later j g (r .good) (below b x m) (below-within s) (proper-below s p) (known .0) (same-below b p o e)
               (written j g i + 1);
-          room = rw w at room-left;
+          entries-fit = rw w at entries-left;
           stacked = (
             record {
               good = rw back (r .good);
@@ -198,7 +197,7 @@ module _ {j : Job} {n : ℕ} {ps : List Path} {g : Group} {fs : List Fork} (r : 
               from-low = omega arith;
               to-high = omega arith;
               counted = omega arith;
-              room = rw (back, ← w) room-left;
+              entries-fit = rw (back, ← w) entries-left;
             },
             rw back (r .stacked),
           );
@@ -216,7 +215,7 @@ reforked {f = f} {g = g} h x s k back l r u = record {
   from-low = l;
   to-high = r;
   counted = u;
-  room = rw back (k .room);
+  entries-fit = rw back (k .entries-fit);
 }
 
 module _ {j : Job} {n : ℕ} {ps : List Path} {g : Group} {f : Fork} {fs : List Fork} (r : Resting j n ps g (f ∷ fs)) where
@@ -269,7 +268,7 @@ module _ {j : Job} {n : ℕ} {ps : List Path} {g : Group} {f : Fork} {fs : List 
         record {
           moved = rest-waits ∙ rw (parts, back);
           good = good-later j c (k .good) q v p (k .followed) e _;
-          room = rw u (k .room);
+          entries-fit = rw u (k .entries-fit);
           stacked = (reforked (later a (written j a (k .instruction) + 1) q) x s k back l h (omega arith), rw back (r .stacked .1));
         }
 

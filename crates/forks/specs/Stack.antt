@@ -14,8 +14,8 @@ use Rattle.riscu.specs.declared.Decoded.the-variants.{Row, NoRow}
 use Rattle.listing.specs.Group.{Job, Group, viewOf, after, classOf}
 use Rattle.listing.specs.Ending.{writes}
 use Rattle.listing.specs.Listing.{Path, progress, later, moves}
-use Rattle.corners.proofs.Smooth.{Followed}
-use Rattle.corners.proofs.Corner.{Good, lowState}
+use Rattle.corners.specs.Smooth.{Followed}
+use Rattle.corners.specs.Good.{Good, lowState}
 
 -- A fork of the present path: the input cut and its interval before the fork; where the part not yet taken begins; the steps and
 -- the entries in use before the fork; whether nothing of it is left.
@@ -54,6 +54,9 @@ forkAt g i m =
 abbrev pub restAt : Fork → ℕ → Bool → Fork
 restAt f x s = record { input = f .input; low = f .low; high = f .high; rest = x; steps = f .steps; used = f .used; spent = s }
 
+abbrev pub withRest : Fork → ℕ → Fork
+withRest f x = restAt f x (f .spent)
+
 abbrev pub shorten : Fork → ℕ → Fork
 shorten f m = restAt f (m + 1) false
 
@@ -87,7 +90,7 @@ pub record Forked (j : Job) (f : Fork) (g : Group) : Type 0 where
   pub from-low : f .low ≤ f .rest
   pub to-high : f .rest ≤ f .high
   pub counted : f .used < g .used
-  pub room : f .used + (written j (before f (g .box)) instruction + 1) ≤ j .entries
+  pub entries-fit : f .used + (written j (before f (g .box)) instruction + 1) ≤ j .entries
 
 abbrev pub Stacked : Job → List Fork → Group → Type 0
 Stacked j [] g = Unit {0}
@@ -97,7 +100,7 @@ Stacked j (f ∷ fs) g = Forked j f g × Stacked j fs (before f (g .box))
 pub record Running (j : Job) (n : ℕ) (ps : List Path) (g : Group) (fs : List Fork) : Type 0 where
   pub moved : moves viewOf j n ≡ progress ps (g ∷ waitingOf j fs (g .box))
   pub good : Good j g
-  pub room : g .used ≤ j .entries
+  pub entries-fit : g .used ≤ j .entries
   pub stacked : Stacked j fs g
 
 -- the explorer between two groups, the last one at hand: waiting is what the stack holds

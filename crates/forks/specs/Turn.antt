@@ -16,8 +16,8 @@ use Rattle.listing.specs.Group.{Job, Group, after, classOf}
 use Rattle.listing.specs.Ending.{endBy}
 use Rattle.listing.specs.Listing.{Path, Progress, progress, later, pathOf, whole}
 use Rattle.listing.specs.declared.End.{End}
-use Rattle.corners.proofs.Corner.{lowState, highState, inputOf, cornersOf}
 use Rattle.forks.specs.Stack.{Fork, before, left, forkAt, shorten, spend, written, waitingOf, Running, Resting}
+use Rattle.corners.specs.Good.{lowState, highState, inputOf, cornersOf}
 
 -- the explorer's position, at a group or between two: the paths so far, the group at hand (the current one, or the last one ended),
 -- the forks

@@ -1,4 +1,4 @@
--- What an accepted job gives to a call: of the questions at the door only 5 and 7, on the table and the report, are left to ask.
+-- What an accepted job gives to a call: of the questions only 5 and 7, on the table and the report, are left to ask.
 -- Assumes nothing.
 use mathlib.Core.Path.{_≡_, _∙_}
 use mathlib.Core.Bool.{Bool, true}
@@ -9,14 +9,17 @@ use native.Mathlib.Omega.{arith}
 use borrow.Author.Tests.{le-leb, eq-eqb}
 use lib.ListN.{length, take, length-append, length-replicate}
 use lib.Seq.{take-at}
-use Rattle.blocks.specs.Record.{room}
-use Rattle.calls.specs.Call.{asks, firstNo, door}
+use Rattle.riscu.specs.Limits.{memoryWords}
+use Rattle.blocks.specs.Record.{mostInputs}
+use Rattle.calls.specs.Limits.{entryWords}
+use Rattle.calls.specs.Call.{asks, firstNo, refusalOf}
 use Rattle.calls.specs.declared.Refusal.{Refusal}
 use Rattle.calls.specs.declared.Refusal.the-variants.{Code, Inputs, Order, Limit, Table, Memory, Report, First}
-use Rattle.jobs.specs.Job.{codeCount, inputCount, givenCount, codeAt, memoryAt, intervalAt, codeIn, intervalsIn, memoryIn, jobRead, callIn, codeFits, ordered, limitFits, firstFits, jobDoor}
+use Rattle.jobs.specs.Job.{codeCount, inputCount, givenCount, codeAt, memoryAt, intervalAt, codeIn, intervalsIn, memoryIn, jobRead, callIn, codeFits, ordered, limitFits, firstFits, jobRefusalOf}
 use Rattle.jobs.specs.Reading.{over}
+use Rattle.calls.proofs.Asked.{yes-on}
 use Rattle.jobs.proofs.Copied.{copied}
-use Rattle.jobs.proofs.Asked.{open-passed, open-sized}
+use Rattle.jobs.proofs.Asked.{yes-passed, yes-sized}
 
 -- how much is read
 
@@ -28,7 +31,7 @@ pub intervals-length : (bytes : List ℕ) → length (intervalsIn bytes) ≡ 2 *
 unfolding intervalsIn
 intervals-length bytes = copied (intervalAt bytes) (2 * inputCount bytes)
 
-pub memory-length : (bytes : List ℕ) → givenCount bytes ≤ 512 → length (memoryIn bytes) ≡ 512
+pub memory-length : (bytes : List ℕ) → givenCount bytes ≤ memoryWords → length (memoryIn bytes) ≡ memoryWords
 unfolding memoryIn
 memory-length bytes h = rw (length-append, length-replicate, copied (memoryAt bytes) (givenCount bytes)) (omega arith)
 
@@ -36,51 +39,47 @@ memory-length bytes h = rw (length-append, length-replicate, copied (memoryAt by
 pub over-taken : (new old : List ℕ) {n : ℕ} → length new ≡ n → take n (over new old) ≡ new
 over-taken new old {n} e = take-at new _ n e
 
-yes-on : (answer : Refusal → Bool) (r : Refusal) (rs : List Refusal) → answer r ≡ true → firstNo answer (r ∷ rs) ≡ firstNo answer rs
-unfolding firstNo
-yes-on answer r rs e = rw e
-
 last-yes : (answer : Refusal → Bool) (r q : Refusal) → answer q ≡ true → firstNo answer (r ∷ q ∷ []) ≡ firstNo answer (r ∷ [])
 unfolding firstNo
 last-yes answer r q e = rw e
 
-module _ (bytes report : List ℕ) (words : ℕ) (e : jobDoor bytes ≡ none) (table : 8 ≤ words) where
+module _ (bytes report : List ℕ) (words : ℕ) (e : jobRefusalOf bytes ≡ none) (table : entryWords ≤ words) where
   abbrev answer : Refusal → Bool
   answer = asks (jobRead bytes .memory) words (callIn bytes report)
 
   code-asked : answer Code ≡ true
   unfolding asks jobRead codeFits
-  code-asked = rw (code-length bytes) (open-passed bytes e .code)
+  code-asked = rw (code-length bytes) (yes-passed bytes e .code)
 
   inputs-asked : answer Inputs ≡ true
   unfolding asks jobRead
   inputs-asked =
-      let few = open-sized bytes e .inputs in
+      let few = yes-sized bytes e .inputs in
       let even : 2 * inputCount bytes % 2 ≡ 0 = omega arith in
-      rw (intervals-length bytes, eq-eqb (2 * inputCount bytes % 2) 0 even) (le-leb (2 * inputCount bytes) (2 * room) (omega arith))
+      rw (intervals-length bytes, eq-eqb (2 * inputCount bytes % 2) 0 even) (le-leb (2 * inputCount bytes) (2 * mostInputs) (omega arith))
 
   order-asked : answer Order ≡ true
   unfolding asks jobRead ordered
-  order-asked = open-passed bytes e .order
+  order-asked = yes-passed bytes e .order
 
   limit-asked : answer Limit ≡ true
   unfolding asks jobRead limitFits
-  limit-asked = open-passed bytes e .limit
+  limit-asked = yes-passed bytes e .limit
 
   table-asked : answer Table ≡ true
   unfolding asks
-  table-asked = le-leb 8 words table
+  table-asked = le-leb entryWords words table
 
   memory-asked : answer Memory ≡ true
   unfolding asks jobRead
-  memory-asked = eq-eqb (length (memoryIn bytes)) 512 (memory-length bytes (open-sized bytes e .given))
+  memory-asked = eq-eqb (length (memoryIn bytes)) memoryWords (memory-length bytes (yes-sized bytes e .given))
 
   first-asked : answer First ≡ true
   unfolding asks jobRead firstFits
-  first-asked = open-passed bytes e .first
+  first-asked = yes-passed bytes e .first
 
-  pub accepted-door : door (jobRead bytes .memory) words (callIn bytes report) ≡ firstNo answer (Report ∷ [])
-  accepted-door =
+  pub accepted-refusal : refusalOf (jobRead bytes .memory) words (callIn bytes report) ≡ firstNo answer (Report ∷ [])
+  accepted-refusal =
       yes-on answer Code _ code-asked
       ∙ yes-on answer Inputs _ inputs-asked
       ∙ yes-on answer Order _ order-asked

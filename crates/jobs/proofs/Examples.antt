@@ -5,9 +5,9 @@ use mathlib.Core.Option.{Option, none, some}
 use Prim.Native.Nat.{ℕ, _+_, _*_, _^_}
 use lib.ListN.{set, drop, replicate}
 use Rattle.boxes.specs.Boxes.{from}
-use Rattle.blocks.specs.Block.{bytesOf, numberOf, checkFrom, block}
-use Rattle.calls.specs.Call.{boxOf, inOrder}
-use Rattle.jobs.specs.Job.{payloadAt, codeAt, intervalAt, codeIn, intervalsIn, memoryIn, jobRead, each, wholeBlocks, checksAgree, codeFits, inputsFit, ordered, limitFits, memoryFits, firstFits, zeroWords, zeroHalves, unusedZero, wellFormed, jobQuestions, firstNo, jobDoor, jobNumber}
+use Rattle.blocks.specs.Block.{bytesOf, numberOf, checkFrom, block, each, checksAgree}
+use Rattle.calls.specs.Call.{boxOf, inOrder, firstNo}
+use Rattle.jobs.specs.Job.{payloadAt, codeAt, intervalAt, codeIn, intervalsIn, memoryIn, jobRead, wholeBlocks, codeFits, inputsFit, ordered, limitFits, memoryFits, firstFits, zeroWords, zeroHalves, unusedZero, wellFormed, headerAsks, jobAsks, jobRefusalOf, jobNumber}
 use Rattle.jobs.specs.declared.JobRefusal.{JobRefusal}
 
 unfoldable pub header : List ℕ
@@ -35,22 +35,22 @@ refused (some r) = jobNumber r
 
 unfoldable pub answers : List ℕ
 answers =
-    refused (jobDoor (block header ++ block words))
-    ∷ refused (jobDoor (drop 1 (block header ++ block words)))
-    ∷ refused (jobDoor (set (block header ++ block words) 300 1))
-    ∷ refused (jobDoor (changed 1 0))
-    ∷ refused (jobDoor (changed 2 9))
-    ∷ refused (jobDoor (changed 5 256))
-    ∷ refused (jobDoor (changed 3 0))
-    ∷ refused (jobDoor (block (set header 4 (2 ^ 32)) ++ block words))
-    ∷ refused (jobDoor (changed 0 2))
-    ∷ refused (jobDoor (changed 1 7))
-    ∷ refused (jobDoor (changed 6 1))
-    ∷ refused (jobDoor (changed 0 1 ++ block []))
+    refused (jobRefusalOf (block header ++ block words))
+    ∷ refused (jobRefusalOf (drop 1 (block header ++ block words)))
+    ∷ refused (jobRefusalOf (set (block header ++ block words) 300 1))
+    ∷ refused (jobRefusalOf (changed 1 0))
+    ∷ refused (jobRefusalOf (changed 2 9))
+    ∷ refused (jobRefusalOf (changed 5 256))
+    ∷ refused (jobRefusalOf (changed 3 0))
+    ∷ refused (jobRefusalOf (block (set header 4 (2 ^ 32)) ++ block words))
+    ∷ refused (jobRefusalOf (changed 0 2))
+    ∷ refused (jobRefusalOf (changed 1 7))
+    ∷ refused (jobRefusalOf (changed 6 1))
+    ∷ refused (jobRefusalOf (changed 0 1 ++ block []))
     ∷ []
 
 pub job-a-answers : answers ≡ 0 ∷ 9 ∷ 10 ∷ 1 ∷ 2 ∷ 3 ∷ 4 ∷ 8 ∷ 11 ∷ 11 ∷ 11 ∷ 11 ∷ []
-unfolding answers refused changed header words jobDoor jobQuestions firstNo wholeBlocks checksAgree each checkFrom bytesOf numberOf block codeFits inputsFit ordered inOrder boxOf intervalsIn intervalAt limitFits memoryFits firstFits wellFormed unusedZero zeroWords zeroHalves payloadAt codeAt from flatMap
+unfolding answers refused changed header words jobRefusalOf jobAsks headerAsks firstNo wholeBlocks checksAgree each checkFrom bytesOf numberOf block codeFits inputsFit ordered inOrder boxOf intervalsIn intervalAt limitFits memoryFits firstFits wellFormed unusedZero zeroWords zeroHalves payloadAt codeAt from flatMap
 job-a-answers = refl
 
 pub job-a-read : jobRead (block header ++ block words) ≡ record { code = code; intervals = 0 ∷ 255 ∷ []; limit = 100; first = 0; memory = replicate 512 0 }

@@ -1,44 +1,49 @@
 -- A job is a header block, code blocks, then memory blocks: where its parts stand, the questions on it, and what is read.
-use Prim.Native.Nat.{ℕ, zero, suc, _+_, _-_, _*_, _/_, _%_, _^_}
+use Prim.Native.Nat.{ℕ, _+_, _-_, _*_, _/_, _%_, _^_}
 use mathlib.Core.Bool.{Bool, true, cond, _&&_}
 use mathlib.Core.List.{List, [], _∷_, _++_, map}
-use mathlib.Core.Option.{Option, none, some}
+use mathlib.Core.Option.{Option}
 use lib.Dec.{ltb, leb, eqb}
-use lib.ListN.{length, drop, replicate}
+use lib.ListN.{length, replicate}
 use Rattle.boxes.specs.Boxes.{from}
-use Rattle.blocks.specs.Block.{blockWords, blockBytes, payloadWords, wordAt, agrees}
-use Rattle.blocks.specs.Record.{room}
+use Rattle.riscu.specs.Limits.{codeWords, memoryWords}
+use Rattle.blocks.specs.Block.{blockWords, blockBytes, payloadWords, wordAt, blockCount, each, checksAgree}
+use Rattle.blocks.specs.Record.{mostInputs}
 use Rattle.calls.specs.Call as call
-use Rattle.calls.specs.Call.{callOf, number, boxOf, inOrder}
-use Rattle.calls.specs.declared.Refusal.the-variants.{Code, Inputs, Order, Limit, Memory, First}
+use Rattle.calls.specs.Call.{callOf, number, boxOf, inOrder, firstNo}
+use Rattle.calls.specs.Limits.{mostSteps, firstEnd}
+use Rattle.calls.specs.declared.Refusal.{Refusal}
+use Rattle.calls.specs.declared.Refusal.the-variants.{Code, Inputs, Order, Limit, Table, Memory, Report, First}
+use Rattle.jobs.specs.Header as header
 use Rattle.jobs.specs.declared.JobRefusal.{JobRefusal}
 use Rattle.jobs.specs.declared.JobRefusal.the-variants.{Blocks, Check, Call, Form}
 
--- Header: 0 holds 1, 1 code count, 2 input count, 3 step limit, 4 first path, 5 to 12 lows, 13 to 20 highs, 21 memory words given.
+-- The words of the header.
 
 abbrev pub mark : List ℕ → ℕ
-mark bytes = wordAt bytes 0
+mark bytes = wordAt bytes header.mark
 
 abbrev pub codeCount : List ℕ → ℕ
-codeCount bytes = wordAt bytes 1
+codeCount bytes = wordAt bytes header.code
 
 abbrev pub inputCount : List ℕ → ℕ
-inputCount bytes = wordAt bytes 2
+inputCount bytes = wordAt bytes header.inputs
 
 abbrev pub stepLimit : List ℕ → ℕ
-stepLimit bytes = wordAt bytes 3
+stepLimit bytes = wordAt bytes header.limit
 
 abbrev pub firstPath : List ℕ → ℕ
-firstPath bytes = wordAt bytes 4
+firstPath bytes = wordAt bytes header.first
 
 abbrev pub lowOf : List ℕ → ℕ → ℕ
-lowOf bytes i = wordAt bytes (5 + i)
+lowOf bytes i = wordAt bytes (header.lows + i)
 
 abbrev pub highOf : List ℕ → ℕ → ℕ
-highOf bytes i = wordAt bytes (13 + i)
+highOf bytes i = wordAt bytes (header.highs + i)
 
+-- memory words given
 abbrev pub givenCount : List ℕ → ℕ
-givenCount bytes = wordAt bytes 21
+givenCount bytes = wordAt bytes header.given
 
 -- The parts behind the header take as few blocks as hold their words, 63 a block.
 
@@ -93,7 +98,7 @@ unfoldable pub intervalsIn : List ℕ → List ℕ
 intervalsIn bytes = map (intervalAt bytes) (from 0 (2 * inputCount bytes))
 
 unfoldable pub memoryIn : List ℕ → List ℕ
-memoryIn bytes = map (memoryAt bytes) (from 0 (givenCount bytes)) ++ replicate (512 - givenCount bytes) 0
+memoryIn bytes = map (memoryAt bytes) (from 0 (givenCount bytes)) ++ replicate (memoryWords - givenCount bytes) 0
 
 unfoldable pub jobRead : List ℕ → JobRead
 jobRead bytes =
@@ -111,43 +116,28 @@ callIn bytes report = let j = jobRead bytes in callOf (j .code) (j .intervals) (
 
 -- The questions.
 
--- whether a test holds of the n numbers k, k + 1, ..
-unfoldable pub each : (ℕ → Bool) → ℕ → ℕ → Bool
-each p k zero = true
-each p k (suc n) = p k && each p (suc k) n
-
-abbrev pub blockCount : List ℕ → ℕ
-blockCount bytes = length bytes / blockBytes
-
 -- 9: 1 to 19 whole blocks
 unfoldable pub wholeBlocks : List ℕ → Bool
 wholeBlocks bytes = eqb (length bytes % blockBytes) 0 && (leb 1 (blockCount bytes) && leb (blockCount bytes) 19)
 
--- 10: every check agrees
-abbrev pub blockAgrees : List ℕ → ℕ → Bool
-blockAgrees bytes k = agrees (drop (k * blockBytes) bytes)
-
-unfoldable pub checksAgree : List ℕ → Bool
-checksAgree bytes = each (blockAgrees bytes) 0 (blockCount bytes)
-
--- 1, 2, 3, 4, 6, 8 on the header
+-- 10: every check agrees (checksAgree); 1, 2, 3, 4, 6, 8 on the header
 unfoldable pub codeFits : List ℕ → Bool
-codeFits bytes = leb 1 (codeCount bytes) && leb (codeCount bytes) 1024
+codeFits bytes = leb 1 (codeCount bytes) && leb (codeCount bytes) codeWords
 
 unfoldable pub inputsFit : List ℕ → Bool
-inputsFit bytes = leb (inputCount bytes) room
+inputsFit bytes = leb (inputCount bytes) mostInputs
 
 unfoldable pub ordered : List ℕ → Bool
 ordered bytes = inOrder (boxOf (intervalsIn bytes))
 
 unfoldable pub limitFits : List ℕ → Bool
-limitFits bytes = leb 1 (stepLimit bytes) && leb (stepLimit bytes) 65536
+limitFits bytes = leb 1 (stepLimit bytes) && leb (stepLimit bytes) mostSteps
 
 unfoldable pub memoryFits : List ℕ → Bool
-memoryFits bytes = leb (givenCount bytes) 512
+memoryFits bytes = leb (givenCount bytes) memoryWords
 
 unfoldable pub firstFits : List ℕ → Bool
-firstFits bytes = ltb (firstPath bytes) (2 ^ 32)
+firstFits bytes = ltb (firstPath bytes) firstEnd
 
 -- 11: word 0 equal to 1, the block count as the header needs, each unused word and half 0
 abbrev pub zeroWord : List ℕ → ℕ → ℕ → Bool
@@ -166,9 +156,9 @@ zeroHalves bytes j e = each (zeroHalf bytes) j (e - j)
 
 unfoldable pub unusedZero : List ℕ → Bool
 unusedZero bytes =
-    zeroWords bytes 0 (5 + inputCount bytes) 13
-    && (zeroWords bytes 0 (13 + inputCount bytes) 21
-    && (zeroWords bytes 0 22 payloadWords
+    zeroWords bytes 0 (header.lows + inputCount bytes) header.highs
+    && (zeroWords bytes 0 (header.highs + inputCount bytes) header.given
+    && (zeroWords bytes 0 header.rest payloadWords
     && (zeroHalves bytes (codeCount bytes) (2 * payloadWords * codeBlocks bytes)
     && zeroWords bytes (firstMemory bytes) (givenCount bytes) (payloadWords * memoryBlocks bytes))))
 
@@ -176,28 +166,29 @@ unfoldable pub wellFormed : List ℕ → Bool
 wellFormed bytes =
     eqb (mark bytes) 1 && (eqb (blockCount bytes) (firstMemory bytes + memoryBlocks bytes) && unusedZero bytes)
 
--- the questions in their order, each with the refusal that answers its no
-unfoldable pub jobQuestions : List ℕ → List (JobRefusal × Bool)
-jobQuestions bytes =
-    (Blocks, wholeBlocks bytes)
-    ∷ (Check, checksAgree bytes)
-    ∷ (Call Code, codeFits bytes)
-    ∷ (Call Inputs, inputsFit bytes)
-    ∷ (Call Order, ordered bytes)
-    ∷ (Call Limit, limitFits bytes)
-    ∷ (Call Memory, memoryFits bytes)
-    ∷ (Call First, firstFits bytes)
-    ∷ (Form, wellFormed bytes)
-    ∷ []
+-- the questions, each under the refusal that answers its no; of a call's questions those on the header
+unfoldable pub headerAsks : List ℕ → Refusal → Bool
+headerAsks bytes Code = codeFits bytes
+headerAsks bytes Inputs = inputsFit bytes
+headerAsks bytes Order = ordered bytes
+headerAsks bytes Limit = limitFits bytes
+headerAsks bytes Table = true
+headerAsks bytes Memory = memoryFits bytes
+headerAsks bytes Report = true
+headerAsks bytes First = firstFits bytes
 
--- the first no
-unfoldable pub firstNo : List (JobRefusal × Bool) → Option JobRefusal
-firstNo [] = none
-firstNo (q ∷ qs) = cond (q .1) (firstNo qs) (some (q .0))
+unfoldable pub jobAsks : List ℕ → JobRefusal → Bool
+jobAsks bytes Blocks = wholeBlocks bytes
+jobAsks bytes Check = checksAgree bytes
+jobAsks bytes (Call r) = headerAsks bytes r
+jobAsks bytes Form = wellFormed bytes
+
+abbrev pub jobQuestions : List JobRefusal
+jobQuestions = Blocks ∷ Check ∷ Call Code ∷ Call Inputs ∷ Call Order ∷ Call Limit ∷ Call Memory ∷ Call First ∷ Form ∷ []
 
 -- the first no decides
-unfoldable pub jobDoor : List ℕ → Option JobRefusal
-jobDoor bytes = firstNo (jobQuestions bytes)
+unfoldable pub jobRefusalOf : List ℕ → Option JobRefusal
+jobRefusalOf bytes = firstNo (jobAsks bytes) jobQuestions
 
 abbrev pub jobNumber : JobRefusal → ℕ
 jobNumber Blocks = 9

@@ -1,23 +1,26 @@
--- What the code's contracts use beside the definitions: the door's answer in the code's types, and what the reader leaves.
+-- What the code's contracts use beside the definitions: what the questions come to in the code's types, and what the reader leaves.
 use Prim.Native.Nat.{ℕ, _≤_, _%_}
 use mathlib.Core.Path.{_≡_}
 use mathlib.Core.List.{List, _++_}
 use mathlib.Core.Option.{Option, none, some}
+use denote.Ref.{now}
 use lib.ListN.{length, drop}
+use Rattle.riscu.specs.Limits.{codeWords, memoryWords}
 use Rattle.blocks.specs.Block.{blockBytes}
-use Rattle.blocks.specs.Record.{room}
-use Rattle.jobs.specs.Job.{codeCount, inputCount, stepLimit, firstPath, givenCount, JobRead, jobRead, jobDoor}
+use Rattle.blocks.specs.Record.{mostInputs}
+use Rattle.riscu.specs.Lent.{LentList}
+use Rattle.jobs.specs.Job.{codeCount, inputCount, stepLimit, firstPath, givenCount, JobRead, jobRead, jobRefusalOf}
 use Rattle.jobs.specs.declared.JobRefusal.{JobRefusal}
-use Rattle.jobs.specs.declared.JobDoor.{JobDoor}
-use Rattle.jobs.specs.declared.JobDoor.the-variants.{Open, Closed}
+use Rattle.jobs.specs.declared.JobQuestioned.{JobQuestioned}
+use Rattle.jobs.specs.declared.JobQuestioned.the-variants.{AllYes, No}
 use Rattle.jobs.specs.declared.Counts.{Counts}
 use Rattle.jobs.specs.declared.JobAnswer.{JobAnswer}
 use Rattle.jobs.specs.declared.JobAnswer.the-variants.{Refused, Read}
 
 -- no question is answered no, or the first that is
-abbrev pub jobDoorAs : Option JobRefusal → JobDoor
-jobDoorAs none = Open
-jobDoorAs (some r) = Closed r
+abbrev pub jobRefusalIn : JobQuestioned → Option JobRefusal
+jobRefusalIn AllYes = none
+jobRefusalIn (No r) = some r
 
 -- whole blocks: every word is there or 0
 abbrev pub Whole : List ℕ → Type 0
@@ -26,9 +29,9 @@ Whole bytes = length bytes % blockBytes ≡ 0
 -- what the questions on the counts leave
 pub record Sized (bytes : List ℕ) : Type 0 where
   pub whole : Whole bytes
-  pub code : codeCount bytes ≤ 1024
-  pub inputs : inputCount bytes ≤ room
-  pub given : givenCount bytes ≤ 512
+  pub code : codeCount bytes ≤ codeWords
+  pub inputs : inputCount bytes ≤ mostInputs
+  pub given : givenCount bytes ≤ memoryWords
 
 abbrev pub countsIn : List ℕ → Counts
 countsIn bytes =
@@ -56,4 +59,12 @@ readBy bytes code intervals memory none =
     jobLeft (Read (countsIn bytes)) (over (j .code) code) (over (j .intervals) intervals) (j .memory)
 
 unfoldable pub readTo : List ℕ → List ℕ → List ℕ → List ℕ → JobLeft
-readTo bytes code intervals memory = readBy bytes code intervals memory (jobDoor bytes)
+readTo bytes code intervals memory = readBy bytes code intervals memory (jobRefusalOf bytes)
+
+-- what is lent to the reader and answered, at the return, and what document 01 gives for it
+abbrev pub leftIn : JobAnswer → LentList → LentList → LentList → JobLeft
+leftIn answer code intervals memory = jobLeft answer (now (code .exit)) (now (intervals .exit)) (now (memory .exit))
+
+abbrev pub readInto : LentList → LentList → LentList → LentList → JobLeft
+readInto bytes code intervals memory =
+    readTo (now (bytes .entry)) (now (code .entry)) (now (intervals .entry)) (now (memory .entry))

@@ -7,10 +7,11 @@ ghost use mathlib.Core.Path.{_≡_};
 ghost use Rattle.jobs.specs.Job.{jobNumber};
 
 mod asking;
+mod header;
 pub mod reading;
 mod words;
 
-// Why a job is refused: not whole blocks, a check, a question at the door, a part out of its form.
+// Why a job is refused: not whole blocks, a check, a question of a call, a part out of its form.
 pub enum JobRefusal {
     Blocks,
     Check,
@@ -19,9 +20,9 @@ pub enum JobRefusal {
 }
 
 // What the questions come to: none is answered no, or the first that is.
-pub enum JobDoor {
-    Open,
-    Closed(JobRefusal),
+pub enum JobQuestioned {
+    AllYes,
+    No(JobRefusal),
 }
 
 // The numbers of a job: how many code words and inputs were read, the step limit and the first path.

@@ -1,28 +1,41 @@
 // What an accepted job holds, copied into what the caller lends.
 use crate::Counts;
 use crate::JobAnswer;
-use crate::JobDoor;
+use crate::JobQuestioned;
 use crate::asking::ask_job;
 use crate::asking::blocks_for;
+use crate::header::CODE_COUNT;
+use crate::header::FIRST_PATH;
+use crate::header::GIVEN_COUNT;
+use crate::header::INPUT_COUNT;
+use crate::header::STEP_LIMIT;
 use crate::words::FIRST_CODE;
 use crate::words::code_word;
 use crate::words::interval_word;
 use crate::words::payload_word;
 use crate::words::word;
-use blocks::ROOM;
+use blocks::MOST_INPUTS;
 use calls::questions::CODE_WORDS;
 use riscu::plain::Machine;
 ghost use mathlib.Core.Path.{_≡_};
 ghost use mathlib.Core.Option.{none};
-ghost use Rattle.jobs.specs.Job.{codeIn, intervalsIn, memoryIn, jobDoor};
-ghost use Rattle.jobs.specs.Reading.{Sized, countsIn, over, jobLeft, readTo};
+ghost use Rattle.jobs.specs.Job.{inputCount, codeIn, intervalsIn, memoryIn, jobRefusalOf};
+ghost use Rattle.jobs.specs.Reading.{Whole, Sized, countsIn, over, leftIn, readInto};
+
+// The input count of a job of whole blocks.
+pub fn input_count(bytes: &[u8]) -> usize
+    requires { ⌜ Whole (now bytes) ⌝ }
+    ensures { λ r. ⌜ r ≡ inputCount (now (bytes .entry)) ⌝ }
+{
+    word(bytes, INPUT_COUNT) as usize
+}
 
 // The code words that the job gives, over the old ones.
 fn code_in(bytes: &[u8], old: [u32; CODE_WORDS]) -> [u32; CODE_WORDS]
     requires { ⌜ Sized (now bytes) ⌝ }
     ensures { λ r. ⌜ r ≡ over (codeIn (now (bytes .entry))) old ⌝ }
 {
-    let n = word(bytes, 1) as usize;
+    let n = word(bytes, CODE_COUNT) as usize;
     let mut words = old;
     let mut k: usize = 0;
     while k < n {
@@ -33,11 +46,11 @@ fn code_in(bytes: &[u8], old: [u32; CODE_WORDS]) -> [u32; CODE_WORDS]
 }
 
 // The intervals of the inputs, over the old ones.
-fn intervals_in(bytes: &[u8], old: [u64; 2 * ROOM]) -> [u64; 2 * ROOM]
+fn intervals_in(bytes: &[u8], old: [u64; 2 * MOST_INPUTS]) -> [u64; 2 * MOST_INPUTS]
     requires { ⌜ Sized (now bytes) ⌝ }
     ensures { λ r. ⌜ r ≡ over (intervalsIn (now (bytes .entry))) old ⌝ }
 {
-    let n = 2 * word(bytes, 2) as usize;
+    let n = 2 * input_count(bytes);
     let mut words = old;
     let mut k: usize = 0;
     while k < n {
@@ -52,8 +65,8 @@ fn memory_in(bytes: &[u8]) -> [u64; Machine::MEMORY_WORDS]
     requires { ⌜ Sized (now bytes) ⌝ }
     ensures { λ r. ⌜ r ≡ memoryIn (now (bytes .entry)) ⌝ }
 {
-    let first = FIRST_CODE + blocks_for((word(bytes, 1) as usize + 1) / 2);
-    let n = word(bytes, 21) as usize;
+    let first = FIRST_CODE + blocks_for((word(bytes, CODE_COUNT) as usize + 1) / 2);
+    let n = word(bytes, GIVEN_COUNT) as usize;
     let mut words = [0u64; Machine::MEMORY_WORDS];
     let mut k: usize = 0;
     while k < n {
@@ -69,10 +82,10 @@ fn counts(bytes: &[u8]) -> Counts
     ensures { λ r. ⌜ r ≡ countsIn (now (bytes .entry)) ⌝ }
 {
     Counts {
-        code: word(bytes, 1),
-        inputs: word(bytes, 2),
-        limit: word(bytes, 3),
-        first: word(bytes, 4),
+        code: word(bytes, CODE_COUNT),
+        inputs: word(bytes, INPUT_COUNT),
+        limit: word(bytes, STEP_LIMIT),
+        first: word(bytes, FIRST_PATH),
     }
 }
 
@@ -80,11 +93,11 @@ fn counts(bytes: &[u8]) -> Counts
 fn accept(
     bytes: &[u8],
     code: &mut [u32; CODE_WORDS],
-    intervals: &mut [u64; 2 * ROOM],
+    intervals: &mut [u64; 2 * MOST_INPUTS],
     memory: &mut [u64; Machine::MEMORY_WORDS],
 ) -> JobAnswer
-    requires { ⌜ jobDoor (now bytes) ≡ none ⌝ }
-    ensures { λ r. ⌜ jobLeft r (now (code .exit)) (now (intervals .exit)) (now (memory .exit)) ≡ readTo (now (bytes .entry)) (now (code .entry)) (now (intervals .entry)) (now (memory .entry)) ⌝ }
+    requires { ⌜ jobRefusalOf (now bytes) ≡ none ⌝ }
+    ensures { λ r. ⌜ leftIn r code intervals memory ≡ readInto bytes code intervals memory ⌝ }
 {
     *code = code_in(bytes, *code);
     *intervals = intervals_in(bytes, *intervals);
@@ -96,13 +109,13 @@ fn accept(
 pub fn read_job(
     bytes: &[u8],
     code: &mut [u32; CODE_WORDS],
-    intervals: &mut [u64; 2 * ROOM],
+    intervals: &mut [u64; 2 * MOST_INPUTS],
     memory: &mut [u64; Machine::MEMORY_WORDS],
 ) -> JobAnswer
-    ensures { λ r. ⌜ jobLeft r (now (code .exit)) (now (intervals .exit)) (now (memory .exit)) ≡ readTo (now (bytes .entry)) (now (code .entry)) (now (intervals .entry)) (now (memory .entry)) ⌝ }
+    ensures { λ r. ⌜ leftIn r code intervals memory ≡ readInto bytes code intervals memory ⌝ }
 {
     let d = ask_job(bytes);
-    let JobDoor::Closed(r) = d else {
+    let JobQuestioned::No(r) = d else {
         return accept(bytes, code, intervals, memory);
     };
     JobAnswer::Refused(r)

@@ -1,11 +1,12 @@
 // The words of a job: of its header, of a part that begins with some block, and the halves that are code words.
+use crate::header::HIGHS;
+use crate::header::LOWS;
 use blocks::BLOCK_WORDS;
 use blocks::PAYLOAD_WORDS;
 use blocks::WORD_BYTES;
 use blocks::words::word_at;
 ghost use mathlib.Core.Path.{_≡_};
 ghost use Prim.Native.Nat.{_<_};
-ghost use lib.ListN.{length};
 ghost use Rattle.blocks.specs.Block.{wordAt};
 ghost use Rattle.jobs.specs.Job.{payloadAt, codeAt, intervalAt};
 ghost use Rattle.jobs.specs.Reading.{Whole};
@@ -53,7 +54,7 @@ pub fn interval_word(bytes: &[u8], j: usize) -> u64
     ensures { λ r. ⌜ r ≡ intervalAt (now (bytes .entry)) j ⌝ }
 {
     if j % 2 == 0 {
-        return word(bytes, 5 + j / 2);
+        return word(bytes, LOWS + j / 2);
     }
-    word(bytes, 13 + j / 2)
+    word(bytes, HIGHS + j / 2)
 }

@@ -11,8 +11,9 @@ use Rattle.boxes.specs.Boxes.{keep, classes, hull, piece, pieces}
 use Rattle.riscu.specs.Word.{signed, widen, powerBelow}
 use Rattle.riscu.specs.Decode.{rows, search, decodeOf}
 use Rattle.riscu.specs.Machine.{start, operate, readNext, step, fetch, stepDecoded, run}
-use Rattle.listing.specs.Group.{Job, after, sortOf, comparison, classOf}
-use Rattle.listing.specs.Ending.{first, anyPower, operationPoints, points, writes, needs, endAt, endBy}
+use Rattle.listing.specs.Group.{Job, after, sortOf, comparison, sortingOf, classBy, classOf}
+use Rattle.listing.specs.Ending.{first, anyPower, operationPoints, operandPoints, addressPoints, points}
+use Rattle.listing.specs.Ending.{writes, needs, endAt, endBy}
 use Rattle.listing.specs.Listing.{Path, pathOf, splitBy, moveBy, moveFrom, moves, begin, enough, listing}
 use Rattle.listing.specs.declared.Reason.the-variants.{BothOpen, Multiplier, Divisor, DivisorOpen}
 use Rattle.listing.specs.declared.Reason.the-variants.{Quotients, BaseOpen, CallOpen}
@@ -763,7 +764,7 @@ expected x = x .1
 -- the whole table, by one computation
 pub examples-right : map listed table ≡ map expected table
 unfolding listing enough moves moveFrom moveBy splitBy pathOf begin
-    endBy endAt needs writes points operationPoints powerBelow anyPower first
+    endBy endAt needs writes points addressPoints operandPoints operationPoints powerBelow anyPower first
     from width values choices flatMap size best least greatest every same low high fixed keep classes hull piece pieces
-    classOf sortOf comparison after run stepDecoded fetch step readNext operate start decodeOf search rows signed widen
+    classOf classBy sortingOf sortOf comparison after run stepDecoded fetch step readNext operate start decodeOf search rows signed widen
 examples-right = refl

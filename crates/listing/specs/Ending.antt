@@ -1,13 +1,13 @@
 -- How a path ends: document 01's ten points, in its order. The first that applies decides, with the first reason named there.
-use Prim.Native.Nat.{ℕ, _+_, _-_, _%_, _/_}
+use Prim.Native.Nat.{ℕ, _+_, _-_, _%_}
 use mathlib.Core.Bool.{Bool, true, false, cond, not, _&&_, _||_}
 use mathlib.Core.List.{List, [], _∷_, _++_}
 use mathlib.Core.Option.{Option, none, some}
 use lib.Dec.{ltb, eqb}
-use lib.ListN.{length, getD}
+use lib.ListN.{length}
+use lib.IntN.{ℤ}
 use Rattle.riscu.specs.Word.{powerOf}
-use Rattle.riscu.specs.Machine.{State, reg, offset}
-use Rattle.riscu.specs.Decode.{decodeOf}
+use Rattle.riscu.specs.Machine.{State, reg, offset, badPc, fetch}
 use Rattle.riscu.specs.declared.words.Exponent.{Exponent}
 use Rattle.riscu.specs.declared.words.Exponent.the-variants.{Power, NotPower}
 use Rattle.riscu.specs.declared.Operation.{Operation}
@@ -16,7 +16,11 @@ use Rattle.riscu.specs.declared.Instruction.{Instruction}
 use Rattle.riscu.specs.declared.Instruction.the-variants.{Lui, Addi, Register, Ld, Sd, Beq, Jal, Jalr, Ecall}
 use Rattle.riscu.specs.declared.Decoded.{Decoded}
 use Rattle.riscu.specs.declared.Decoded.the-variants.{Row, NoRow}
-use Rattle.listing.specs.Group.{Job, Group, View, viewOf, sortOf}
+use Rattle.listing.specs.Group.{Job, Group, View, viewOf, sortOf, sortingOf, operand}
+use Rattle.listing.specs.declared.Operand.{Operand}
+use Rattle.listing.specs.declared.Operand.the-variants.{InRegister, Constant}
+use Rattle.listing.specs.declared.Sorting.{Sorting}
+use Rattle.listing.specs.declared.Sorting.the-variants.{Operates, Compares, Nothing}
 use Rattle.listing.specs.declared.Reason.the-variants.{BothOpen, Multiplier, Divisor, DivisorOpen, Quotients, BaseOpen, CallOpen}
 use Rattle.listing.specs.declared.End.{End}
 use Rattle.listing.specs.declared.End.the-variants.{Exit, DivisionByZero, BadPc, BadWord, BadAddress, BadCall, StepLimit, NotFollowed}
@@ -43,64 +47,111 @@ anyPower NotPower = false
 abbrev pub isPower : ℕ → Bool
 isPower n = anyPower (powerOf n)
 
+-- the address of the last memory word
+abbrev pub lastAddress : ℕ
+lastAddress = 4088
+
 abbrev pub badAddress : ℕ → Bool
-badAddress a = not (eqb (a % 8) 0) || ltb 4088 a
+badAddress a = not (eqb (a % 8) 0) || ltb lastAddress a
 
 module _ (v : View) where
-  abbrev openAt : ℕ → Bool
+  -- whether a register is open, and its value: its least, where it is open
+  abbrev pub openAt : ℕ → Bool
   openAt r = v .isOpen (reg r)
 
-  abbrev value : ℕ → ℕ
-  value r = v .lowest (reg r)
+  abbrev pub valueAt : ℕ → ℕ
+  valueAt r = v .lowest (reg r)
 
-  -- both operands are open
-  abbrev bothOpen : ℕ → ℕ → Point
-  bothOpen a b = openAt a && openAt b ⇒ NotFollowed BothOpen
+  -- point 6 of LD and SD
+  abbrev pub badAccess : ℕ → ℤ → Bool
+  badAccess r imm = badAddress (v .lowest (offset r imm))
 
-  -- the divisor is open, or is 0
-  abbrev pub divisor : ℕ → List Point
-  divisor b = (openAt b ⇒ NotFollowed DivisorOpen) ∷ (eqb (value b) 0 ⇒ DivisionByZero) ∷ []
+  -- points 4, 5 and 6 of ECALL, by whether its number is read's and whether it is exit's
+  abbrev pub callOpen : Bool → Bool
+  callOpen read = openAt 17 || read && (openAt 10 || openAt 11 || openAt 12)
 
-  -- a fixed multiplier that is neither 0 nor a power of two, the other open
-  abbrev multiplier : ℕ → ℕ → Point
-  multiplier a b = openAt b && not (eqb (value a) 0 || isPower (value a)) ⇒ NotFollowed Multiplier
+  abbrev pub badCall : Bool → Bool → Bool
+  badCall read exit = not (read || exit) || read && not (eqb (valueAt 10) 0 && eqb (valueAt 12) 8)
 
-  -- the quotients at the open value's low and high are more than 1 apart: the quotient rises with the value
-  abbrev quotients : Operation → ℕ → ℕ → Point
-  quotients op a b =
-      let q : State → ℕ = λ s. sortOf op (reg a s) (reg b s) in
-      ltb (v .lowest q + 1) (v .highest q) ⇒ NotFollowed Quotients
+  abbrev pub badRead : Bool → Bool
+  badRead read = read && badAddress (valueAt 11)
 
-  abbrev address : (State → ℕ) → Point
-  address f = badAddress (v .lowest f) ⇒ BadAddress
-
-  -- points 7 and 8 of an operation on two registers, not into register 0
-  unfoldable pub operationPoints : Operation → ℕ → ℕ → List Point
-  operationPoints Add a b = bothOpen a b ∷ []
-  operationPoints Sub a b = bothOpen a b ∷ []
-  operationPoints Sltu a b = bothOpen a b ∷ []
-  operationPoints Mul a b = bothOpen a b ∷ multiplier a b ∷ multiplier b a ∷ quotients Mul a b ∷ []
-  operationPoints Divu a b = divisor b ++ ((openAt a && not (isPower (value b)) ⇒ NotFollowed Divisor) ∷ [])
-  operationPoints Remu a b = divisor b ++ (quotients Remu a b ∷ [])
-
-  -- points 4 to 9 of each instruction, in the order of the points
-  unfoldable pub points : Instruction → List Point
-  points (Lui rd imm) = []
-  points (Addi rd rs1 imm) = []
-  points (Register op rd rs1 rs2) = cond (eqb rd 0) [] (operationPoints op rs1 rs2)
-  points (Ld rd rs1 imm) = (openAt rs1 ⇒ NotFollowed BaseOpen) ∷ address (offset rs1 imm) ∷ []
-  points (Sd rs1 rs2 imm) = (openAt rs1 ⇒ NotFollowed BaseOpen) ∷ address (offset rs1 imm) ∷ []
-  points (Beq rs1 rs2 imm) = bothOpen rs1 rs2 ∷ []
-  points (Jal rd imm) = []
-  points (Jalr rd rs1 imm) = (openAt rs1 ⇒ NotFollowed BaseOpen) ∷ []
-  points Ecall =
-      let read = eqb (value 17) 63 in
-      let exit = eqb (value 17) 93 in
-      (openAt 17 || read && (openAt 10 || openAt 11 || openAt 12) ⇒ NotFollowed CallOpen)
-      ∷ (not (read || exit) || read && not (eqb (value 10) 0 && eqb (value 12) 8) ⇒ BadCall)
-      ∷ (read && badAddress (value 11) ⇒ BadAddress)
+  -- points 4 to 6, and 9: the instructions that take an address from a register, and ECALL
+  unfoldable pub addressPoints : Instruction → List Point
+  addressPoints (Lui rd imm) = []
+  addressPoints (Addi rd rs1 imm) = []
+  addressPoints (Register op rd rs1 rs2) = []
+  addressPoints (Ld rd rs1 imm) = (openAt rs1 ⇒ NotFollowed BaseOpen) ∷ (badAccess rs1 imm ⇒ BadAddress) ∷ []
+  addressPoints (Sd rs1 rs2 imm) = (openAt rs1 ⇒ NotFollowed BaseOpen) ∷ (badAccess rs1 imm ⇒ BadAddress) ∷ []
+  addressPoints (Beq rs1 rs2 imm) = []
+  addressPoints (Jal rd imm) = []
+  addressPoints (Jalr rd rs1 imm) = (openAt rs1 ⇒ NotFollowed BaseOpen) ∷ []
+  addressPoints Ecall =
+      let read = eqb (valueAt 17) 63 in
+      let exit = eqb (valueAt 17) 93 in
+      (callOpen read ⇒ NotFollowed CallOpen)
+      ∷ (badCall read exit ⇒ BadCall)
+      ∷ (badRead read ⇒ BadAddress)
       ∷ (exit ⇒ Exit)
       ∷ []
+
+  -- whether an operand is open, and its value; a constant is never open
+  abbrev pub operandOpen : Operand → Bool
+  operandOpen (InRegister r) = openAt r
+  operandOpen (Constant n) = false
+
+  abbrev pub operandValue : Operand → ℕ
+  operandValue (InRegister r) = valueAt r
+  operandValue (Constant n) = n
+
+  -- both operands are open
+  abbrev pub bothOpen : Operand → Operand → Bool
+  bothOpen a b = operandOpen b && operandOpen a
+
+  abbrev pub zeroDivisor : Operand → Bool
+  zeroDivisor b = eqb (operandValue b) 0
+
+  -- a fixed multiplier a that is neither 0 nor a power of two, and b open
+  abbrev pub oddMultiplier : Operand → Operand → Bool
+  oddMultiplier a b = operandOpen b && not (eqb (operandValue a) 0 || isPower (operandValue a))
+
+  -- a fixed divisor b that is no power of two, and a open
+  abbrev pub oddDivisor : Operand → Operand → Bool
+  oddDivisor a b = operandOpen a && not (isPower (operandValue b))
+
+  -- the quotients at the open value's low and high are more than 1 apart: the quotient rises with the value
+  abbrev pub farApart : Operation → Operand → Operand → Bool
+  farApart op a b =
+      let q : State → ℕ = λ s. sortOf op (operand a (s .registers)) (operand b (s .registers)) in
+      ltb (v .lowest q + 1) (v .highest q)
+
+  -- point 7: the divisor is open, or is 0
+  abbrev pub divisorPoints : Operand → List Point
+  divisorPoints b = (operandOpen b ⇒ NotFollowed DivisorOpen) ∷ (zeroDivisor b ⇒ DivisionByZero) ∷ []
+
+  -- points 7 and 8 of an operation on two operands
+  unfoldable pub operationPoints : Operation → Operand → Operand → List Point
+  operationPoints Add a b = (bothOpen a b ⇒ NotFollowed BothOpen) ∷ []
+  operationPoints Sub a b = (bothOpen a b ⇒ NotFollowed BothOpen) ∷ []
+  operationPoints Sltu a b = (bothOpen a b ⇒ NotFollowed BothOpen) ∷ []
+  operationPoints Mul a b =
+      (bothOpen a b ⇒ NotFollowed BothOpen)
+      ∷ (oddMultiplier a b ⇒ NotFollowed Multiplier)
+      ∷ (oddMultiplier b a ⇒ NotFollowed Multiplier)
+      ∷ (farApart Mul a b ⇒ NotFollowed Quotients)
+      ∷ []
+  operationPoints Divu a b = divisorPoints b ++ ((oddDivisor a b ⇒ NotFollowed Divisor) ∷ [])
+  operationPoints Remu a b = divisorPoints b ++ ((farApart Remu a b ⇒ NotFollowed Quotients) ∷ [])
+
+  -- points 7 and 8, by what an instruction sorts by
+  unfoldable pub operandPoints : Sorting → List Point
+  operandPoints (Operates op a b) = operationPoints op a b
+  operandPoints (Compares a b) = (bothOpen a b ⇒ NotFollowed BothOpen) ∷ []
+  operandPoints Nothing = []
+
+  -- points 4 to 9; no instruction has both an address and operands to sort by
+  unfoldable pub points : Instruction → List Point
+  points i = addressPoints i ++ operandPoints (sortingOf i)
 
 -- the registers (not 0) and memory words that an instruction writes; read writes its word only where an input is left
 unfoldable pub writes : Bool → Instruction → ℕ
@@ -127,8 +178,8 @@ module _ (j : Job) (g : Group) (v : View) where
   unfoldable pub endBy : Option End
   endBy =
       cond (eqb (g .steps) (j .limit)) (some StepLimit)
-      (cond (not (eqb (v .pc % 4) 0) || not (ltb (v .pc / 4) (length (j .code)))) (some BadPc)
-      (endAt (decodeOf (getD (j .code) (v .pc / 4) 0))))
+      (cond (badPc (j .code) (v .pc)) (some BadPc)
+      (endAt (fetch (j .code) (v .pc))))
 
 -- the end of a group, or none where it goes on
 abbrev pub endOf : Job → Group → Option End

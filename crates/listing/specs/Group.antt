@@ -3,13 +3,18 @@ use Prim.Native.Nat.{ℕ, _+_, _*_, _/_}
 use mathlib.Core.Bool.{Bool, cond, not}
 use mathlib.Core.List.{List}
 use lib.Dec.{ltb, eqb}
+use lib.ListN.{getD}
 use Rattle.boxes.specs.Boxes.{Box, Choice, low, high, fixed, pieces, lows}
 use Rattle.riscu.specs.Word.{size, widen}
-use Rattle.riscu.specs.Machine.{State, start, reg, run}
+use Rattle.riscu.specs.Machine.{State, start, run}
 use Rattle.riscu.specs.declared.Operation.{Operation}
 use Rattle.riscu.specs.declared.Operation.the-variants.{Add, Sub, Mul, Divu, Remu, Sltu}
 use Rattle.riscu.specs.declared.Instruction.{Instruction}
 use Rattle.riscu.specs.declared.Instruction.the-variants.{Lui, Addi, Register, Ld, Sd, Beq, Jal, Jalr, Ecall}
+use Rattle.listing.specs.declared.Operand.{Operand}
+use Rattle.listing.specs.declared.Operand.the-variants.{InRegister, Constant}
+use Rattle.listing.specs.declared.Sorting.{Sorting}
+use Rattle.listing.specs.declared.Sorting.the-variants.{Operates, Compares, Nothing}
 
 -- what an accepted call lends the listing; `entries` is the number of table entries
 pub record Job : Type 0 where
@@ -41,17 +46,32 @@ sortOf Sltu a b = cond (ltb a b) 1 0
 unfoldable pub comparison : ℕ → ℕ → ℕ
 comparison a b = cond (ltb a b) 0 (cond (eqb a b) 1 2)
 
--- the class of a machine at an instruction; into register 0 nothing is computed
+-- What an instruction sorts the choices by: ADDI is ADD of a constant, and into register 0 nothing is computed.
+unfoldable pub sortingOf : Instruction → Sorting
+sortingOf (Lui rd imm) = Nothing
+sortingOf (Addi rd rs1 imm) = cond (eqb rd 0) Nothing (Operates Add (InRegister rs1) (Constant (widen imm)))
+sortingOf (Register op rd rs1 rs2) = cond (eqb rd 0) Nothing (Operates op (InRegister rs1) (InRegister rs2))
+sortingOf (Ld rd rs1 imm) = Nothing
+sortingOf (Sd rs1 rs2 imm) = Nothing
+sortingOf (Beq rs1 rs2 imm) = Compares (InRegister rs1) (InRegister rs2)
+sortingOf (Jal rd imm) = Nothing
+sortingOf (Jalr rd rs1 imm) = Nothing
+sortingOf Ecall = Nothing
+
+-- the value of an operand in a machine's registers
+abbrev pub operand : Operand → List ℕ → ℕ
+operand (InRegister r) l = getD l r 0
+operand (Constant n) l = n
+
+-- the class of a machine, by its registers; where nothing is sorted there is one class
+unfoldable pub classBy : Sorting → List ℕ → ℕ
+classBy (Operates op a b) l = sortOf op (operand a l) (operand b l)
+classBy (Compares a b) l = comparison (operand a l) (operand b l)
+classBy Nothing l = 0
+
+-- its class at an instruction
 unfoldable pub classOf : Instruction → State → ℕ
-classOf (Lui rd imm) s = 0
-classOf (Addi rd rs1 imm) s = cond (eqb rd 0) 0 (sortOf Add (reg rs1 s) (widen imm))
-classOf (Register op rd rs1 rs2) s = cond (eqb rd 0) 0 (sortOf op (reg rs1 s) (reg rs2 s))
-classOf (Ld rd rs1 imm) s = 0
-classOf (Sd rs1 rs2 imm) s = 0
-classOf (Beq rs1 rs2 imm) s = comparison (reg rs1 s) (reg rs2 s)
-classOf (Jal rd imm) s = 0
-classOf (Jalr rd rs1 imm) s = 0
-classOf Ecall s = 0
+classOf i s = classBy (sortingOf i) (s .registers)
 
 -- What a move asks of a group: of a value of the machine whether it is open (not fixed), its least and its greatest; pc and inputs
 -- read; the pieces into which an instruction sorts the choices.

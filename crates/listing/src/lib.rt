@@ -1,8 +1,39 @@
 // The plain listing of document 01: groups, fork rules, the ending order, moves, and one choice followed through the forks.
 // What a reader must believe stands in specs/; the crates `corners` and `paths` have its laws.
-// The code is how a path ends: an enum of document 01's kinds, where kind 8 carries its reason, and their numbers.
+// The code is what an instruction sorts by, and how a path ends: an enum of document 01's kinds, where kind 8 carries its reason, and
+// their numbers.
+use riscu::Instruction;
+use riscu::Operation;
+use riscu::plain::Registers;
+use riscu::plain::register;
+use riscu::words::widen;
 ghost use mathlib.Core.Path.{_≡_};
+ghost use mathlib.Core.Bool.{cond};
+ghost use lib.Dec.{eqb};
+ghost use Rattle.riscu.specs.declared.Instruction.the-variants.{Addi};
+ghost use Rattle.listing.specs.declared.Sorting.the-variants.{Operates, Nothing};
+ghost use Rattle.listing.specs.Group.{operand, sortingOf};
 ghost use Rattle.listing.specs.Numbers.{kindNumber, reasonNumber, reasonWord};
+
+// What an instruction works on: a register, or a number of its own.
+pub enum Operand {
+    InRegister(usize),
+    Constant(u64),
+}
+
+// What an instruction sorts the choices by: an operation on two operands, a comparison of two, or nothing.
+pub enum Sorting {
+    Operates {
+        op: Operation,
+        first: Operand,
+        second: Operand,
+    },
+    Compares {
+        first: Operand,
+        second: Operand,
+    },
+    Nothing,
+}
 
 pub enum Reason {
     BothOpen,
@@ -26,6 +57,61 @@ pub enum End {
     TraceFull,
 }
 
+// The value of an operand.
+pub fn operand_value(o: Operand, registers: &Registers) -> u64
+    ensures { λ r. ⌜ r ≡ operand o (now (registers .entry)) ⌝ }
+{
+    match o {
+        Operand::InRegister(r) => register(registers, r),
+        Operand::Constant(n) => n,
+    }
+}
+
+// An operation into a register; into register 0 nothing is computed.
+fn operates(rd: usize, op: Operation, first: Operand, second: Operand) -> Sorting
+    ensures { λ r. ⌜ r ≡ cond (eqb rd 0) Nothing (Operates op first second) ⌝ }
+{
+    if rd == 0 {
+        Sorting::Nothing
+    } else {
+        Sorting::Operates { op, first, second }
+    }
+}
+
+fn adds(rd: usize, rs1: usize, imm: i64) -> Sorting
+    ensures { λ r. ⌜ r ≡ sortingOf (Addi rd rs1 imm) ⌝ }
+{
+    let n = widen(imm);
+    operates(
+        rd,
+        Operation::Add,
+        Operand::InRegister(rs1),
+        Operand::Constant(n),
+    )
+}
+
+// What an instruction sorts by.
+pub fn sorting_of(i: Instruction) -> Sorting
+    ensures { λ r. ⌜ r ≡ sortingOf i ⌝ }
+{
+    match i {
+        Instruction::Lui { rd, imm } => Sorting::Nothing,
+        Instruction::Addi { rd, rs1, imm } => adds(rd, rs1, imm),
+        Instruction::Register { op, rd, rs1, rs2 } => {
+            operates(rd, op, Operand::InRegister(rs1), Operand::InRegister(rs2))
+        }
+        Instruction::Ld { rd, rs1, imm } => Sorting::Nothing,
+        Instruction::Sd { rs1, rs2, imm } => Sorting::Nothing,
+        Instruction::Beq { rs1, rs2, imm } => Sorting::Compares {
+            first: Operand::InRegister(rs1),
+            second: Operand::InRegister(rs2),
+        },
+        Instruction::Jal { rd, imm } => Sorting::Nothing,
+        Instruction::Jalr { rd, rs1, imm } => Sorting::Nothing,
+        Instruction::Ecall => Sorting::Nothing,
+    }
+}
+
 // The number of a kind.
 pub fn kind_number(e: End) -> u64
     ensures { λ n. ⌜ n ≡ kindNumber e ⌝ }
@@ -44,7 +130,7 @@ pub fn kind_number(e: End) -> u64
 }
 
 // The number of a reason.
-pub fn reason_number(r: Reason) -> u64
+fn reason_number(r: Reason) -> u64
     ensures { λ n. ⌜ n ≡ reasonNumber r ⌝ }
 {
     match r {

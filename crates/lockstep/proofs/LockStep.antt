@@ -13,11 +13,11 @@ use Rattle.riscu.specs.declared.Instruction.{Instruction}
 use Rattle.riscu.specs.declared.Decoded.{Decoded}
 use Rattle.riscu.specs.declared.Decoded.the-variants.{Row, NoRow}
 use Rattle.listing.specs.Group.{Job, Group, after}
-use Rattle.corners.proofs.Smooth.{Smooth}
-use Rattle.corners.proofs.Uniform.{Sound, tagsAt, tagDecoded, classTag}
-use Rattle.corners.proofs.Corner.{inputOf}
-use Rattle.lockstep.specs.Together.{Pair, pair, both, advanced, advancedBy, together, starting, Hangs}
+use Rattle.lockstep.specs.Together.{Pair, Machines, both, advanced, advancedBy, together, starting, Hangs, cornersAfter}
 use Rattle.lockstep.specs.declared.Corners.{Corners}
+use Rattle.corners.specs.Smooth.{Smooth}
+use Rattle.corners.specs.Good.{Sound, inputOf}
+use Rattle.corners.specs.Tags.{tagsAt, tagDecoded, classTag}
 
 module _ (lo hi : Choice) (code : List ℕ) (p : Pair) where
   abbrev at : ℕ → Pair
@@ -40,10 +40,6 @@ module _ (lo hi : Choice) (code : List ℕ) (p : Pair) where
   stopped k n t l e f =
       let q : n - k + k ≡ n = omega arith in
       e ∙ sym (stays k (ap (λ (x : Pair). fetch code (x .low .pc)) (sym e) ∙ f) (n - k)) ∙ ap at q
-
--- the two corners after n steps
-abbrev pub cornersAfter : Job → Box → ℕ → Pair
-cornersAfter j b n = pair (after j n (lows b)) (after j n (highs b)) (tagsAt j b n)
 
 module _ (j : Job) (b : Box) (sound : Sound j b) where
   low-in : Inside (lows b) b
@@ -82,7 +78,6 @@ module _ (j : Job) (b : Box) (sound : Sound j b) where
 
 -- the class of a group hangs on the input that its tag names
 module _ (j : Job) (g : Group) where
-  pub hangs-on : (i : Instruction) {x : ℕ} (at : Corners) (l lm h hm r m : List ℕ)
-      → both at l lm h hm r m ≡ cornersAfter j (g .box) (g .steps) → Hangs i l h r x
-      → x ≡ inputOf j g i
-  hangs-on i at l lm h hm r m e t = t (at .low) (at .high) lm hm m ∙ ap (λ (p : Pair). classTag i (p .low) (p .high) (p .tags)) e
+  pub hangs-on : (i : Instruction) {x : ℕ} (at : Corners) (m : Machines) → both at m ≡ cornersAfter j (g .box) (g .steps)
+      → Hangs i (m .low) (m .high) (m .tags) x → x ≡ inputOf j g i
+  hangs-on i at m e t = t (at .low) (at .high) (m .lowmem) (m .highmem) (m .tagmem) ∙ ap (λ (p : Pair). classTag i (p .low) (p .high) (p .tags)) e

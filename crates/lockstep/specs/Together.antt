@@ -5,15 +5,19 @@ use mathlib.Core.List.{List}
 use Prim.Native.Nat.{ℕ, zero, suc}
 use lib.Dec.{eqb}
 use lib.ListN.{getD, replicate}
-use Rattle.boxes.specs.Boxes.{Choice}
+use denote.Ref.{now}
+use Rattle.boxes.specs.Boxes.{Choice, Box, lows, highs}
+use Rattle.riscu.specs.Limits.{memoryWords}
+use Rattle.riscu.specs.Lent.{LentList}
 use Rattle.riscu.specs.Machine.{State, start, fetch, step}
 use Rattle.riscu.specs.Parts.{state}
 use Rattle.riscu.specs.declared.At.{At}
 use Rattle.riscu.specs.declared.Instruction.{Instruction}
 use Rattle.riscu.specs.declared.Decoded.{Decoded}
 use Rattle.riscu.specs.declared.Decoded.the-variants.{Row, NoRow}
-use Rattle.corners.proofs.Uniform.{Tags, tagStep, classTag}
+use Rattle.listing.specs.Group.{Job, after}
 use Rattle.lockstep.specs.declared.Corners.{Corners}
+use Rattle.corners.specs.Tags.{Tags, tagStep, classTag, tagsAt}
 
 -- the tags in the lists that the code holds them in
 abbrev pub tagged : List ℕ → List ℕ → Tags
@@ -39,9 +43,27 @@ pub record Pair : Type 0 where
 abbrev pub pair : State → State → Tags → Pair
 pair l h t = record { low = l; high = h; tags = t }
 
--- the parts that the code holds it in: where the machines are, the registers and the memory of each, the tags
-abbrev pub both : Corners → List ℕ → List ℕ → List ℕ → List ℕ → List ℕ → List ℕ → Pair
-both c l lm h hm r m = pair (state (c .low) l lm) (state (c .high) h hm) (tagged r m)
+-- the lists that the code holds it in: the registers and the memory of each machine, the tags
+pub record Machines : Type 0 where
+  pub low : List ℕ
+  pub lowmem : List ℕ
+  pub high : List ℕ
+  pub highmem : List ℕ
+  pub tags : List ℕ
+  pub tagmem : List ℕ
+
+abbrev pub machines : List ℕ → List ℕ → List ℕ → List ℕ → List ℕ → List ℕ → Machines
+machines l c h o t v = record { low = l; lowmem = c; high = h; highmem = o; tags = t; tagmem = v }
+
+-- with where the machines are
+abbrev pub both : Corners → Machines → Pair
+both c m = pair (state (c .low) (m .low) (m .lowmem)) (state (c .high) (m .high) (m .highmem)) (tagged (m .tags) (m .tagmem))
+
+abbrev pub machinesBefore : LentList → LentList → LentList → LentList → LentList → LentList → Machines
+machinesBefore l c h o t v = machines (now (l .entry)) (now (c .entry)) (now (h .entry)) (now (o .entry)) (now (t .entry)) (now (v .entry))
+
+abbrev pub machinesAfter : LentList → LentList → LentList → LentList → LentList → LentList → Machines
+machinesAfter l c h o t v = machines (now (l .exit)) (now (c .exit)) (now (h .exit)) (now (o .exit)) (now (t .exit)) (now (v .exit))
 
 module _ (lows highs : Choice) where
   -- both take the instruction
@@ -61,4 +83,8 @@ module _ (lows highs : Choice) where
 
 -- both corners of the starting machine, nothing read
 unfoldable pub starting : List ℕ → Pair
-starting m = pair (start m) (start m) (tagged (replicate 32 0) (replicate 512 0))
+starting m = pair (start m) (start m) (tagged (replicate 32 0) (replicate memoryWords 0))
+
+-- the two corners after n steps
+abbrev pub cornersAfter : Job → Box → ℕ → Pair
+cornersAfter j b n = pair (after j n (lows b)) (after j n (highs b)) (tagsAt j b n)

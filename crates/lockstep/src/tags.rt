@@ -1,4 +1,8 @@
 // The tags, as an instruction moves them.
+use listing::Operand;
+use listing::Sorting;
+use listing::operand_value;
+use listing::sorting_of;
 use riscu::At;
 use riscu::Instruction;
 use riscu::plain::Memory;
@@ -14,18 +18,39 @@ ghost use lib.ListN.{getD, set};
 ghost use Rattle.riscu.specs.Word.{word, widen};
 ghost use Rattle.riscu.specs.Machine.{putIn};
 ghost use Rattle.riscu.specs.declared.Instruction.the-variants.{Ecall};
+ghost use Rattle.corners.specs.Tags.{tagIn, operandTag, tagBy};
 ghost use Rattle.lockstep.specs.Together.{tagged, openTag, Marks, Hangs};
 
-// The tag of the open one of two operands.
-fn operand_tag(low: &Registers, high: &Registers, tags: &Registers, a: usize, b: usize) -> u64
-    ensures { λ r. ⌜ r ≡ openTag a b (now (low .entry)) (now (high .entry)) (now (tags .entry)) ⌝ }
+// The input that an operand hangs on; a constant hangs on none.
+fn tag_in(o: Operand, tags: &Registers) -> u64
+    ensures { λ r. ⌜ r ≡ tagIn o (now (tags .entry)) ⌝ }
 {
-    let x = register(low, a);
-    let y = register(high, a);
+    match o {
+        Operand::InRegister(r) => register(tags, r),
+        Operand::Constant(_) => 0,
+    }
+}
+
+// The tag of the open one of two operands.
+fn operand_tag(low: &Registers, high: &Registers, tags: &Registers, a: Operand, b: Operand) -> u64
+    ensures { λ r. ⌜ r ≡ operandTag a b (now (low .entry)) (now (high .entry)) (now (tags .entry)) ⌝ }
+{
+    let x = operand_value(a, low);
+    let y = operand_value(a, high);
     if x == y {
-        register(tags, b)
+        tag_in(b, tags)
     } else {
-        register(tags, a)
+        tag_in(a, tags)
+    }
+}
+
+fn tag_by(s: Sorting, low: &Registers, high: &Registers, tags: &Registers) -> u64
+    ensures { λ r. ⌜ r ≡ tagBy s (now (low .entry)) (now (high .entry)) (now (tags .entry)) ⌝ }
+{
+    match s {
+        Sorting::Operates { op, first, second } => operand_tag(low, high, tags, first, second),
+        Sorting::Compares { first, second } => operand_tag(low, high, tags, first, second),
+        Sorting::Nothing => 0,
     }
 }
 
@@ -33,17 +58,8 @@ fn operand_tag(low: &Registers, high: &Registers, tags: &Registers, a: usize, b:
 pub fn class_tag(i: Instruction, low: &Registers, high: &Registers, tags: &Registers) -> u64
     ensures { λ r. ⌜ Hangs i (now (low .entry)) (now (high .entry)) (now (tags .entry)) r ⌝ }
 {
-    match i {
-        Instruction::Lui { rd, imm } => 0,
-        Instruction::Addi { rd, rs1, imm } => register(tags, rs1),
-        Instruction::Register { op, rd, rs1, rs2 } => operand_tag(low, high, tags, rs1, rs2),
-        Instruction::Ld { rd, rs1, imm } => 0,
-        Instruction::Sd { rs1, rs2, imm } => 0,
-        Instruction::Beq { rs1, rs2, imm } => operand_tag(low, high, tags, rs1, rs2),
-        Instruction::Jal { rd, imm } => 0,
-        Instruction::Jalr { rd, rs1, imm } => 0,
-        Instruction::Ecall => 0,
-    }
+    let s = sorting_of(i);
+    tag_by(s, low, high, tags)
 }
 
 pub fn mark_copied(tags: &mut Registers, rd: usize, rs1: usize)
@@ -63,49 +79,58 @@ pub fn mark_result(
 )
     ensures { λ _. ⌜ now (tags .exit) ≡ putIn rd (openTag rs1 rs2 (now (low .entry)) (now (high .entry)) (now (tags .entry))) (now (tags .entry)) ⌝ }
 {
-    let v = operand_tag(low, high, tags, rs1, rs2);
+    let v = operand_tag(
+        low,
+        high,
+        tags,
+        Operand::InRegister(rs1),
+        Operand::InRegister(rs2),
+    );
     put(tags, rd, v);
 }
 
 pub fn mark_loaded(
     low: &Registers,
     tags: &mut Registers,
-    cells: &Memory,
+    tagmem: &Memory,
     rd: usize,
     rs1: usize,
     imm: i64,
 )
-    ensures { λ _. ⌜ now (tags .exit) ≡ putIn rd (getD (now (cells .entry)) (word (getD (now (low .entry)) rs1 0 + widen imm) / 8) 0) (now (tags .entry)) ⌝ }
+    ensures { λ _. ⌜ now (tags .exit) ≡ putIn rd (getD (now (tagmem .entry)) (word (getD (now (low .entry)) rs1 0 + widen imm) / 8) 0) (now (tags .entry)) ⌝ }
 {
     let a = offset(low, rs1, imm);
-    let v = load(cells, a);
+    let v = load(tagmem, a);
     put(tags, rd, v);
 }
 
 pub fn mark_stored(
     low: &Registers,
     tags: &Registers,
-    cells: &mut Memory,
+    tagmem: &mut Memory,
     rs1: usize,
     rs2: usize,
     imm: i64,
 )
-    ensures { λ _. ⌜ now (cells .exit) ≡ set (now (cells .entry)) (word (getD (now (low .entry)) rs1 0 + widen imm) / 8) (getD (now (tags .entry)) rs2 0) ⌝ }
+    ensures { λ _. ⌜ now (tagmem .exit) ≡ set (now (tagmem .entry)) (word (getD (now (low .entry)) rs1 0 + widen imm) / 8) (getD (now (tags .entry)) rs2 0) ⌝ }
 {
     let a = offset(low, rs1, imm);
     let v = register(tags, rs2);
-    store(cells, a, v);
+    store(tagmem, a, v);
 }
 
 // With an input left, the word that is read hangs on it.
-fn mark_read(inputs: &[u64], low: &Registers, tags: &mut Registers, cells: &mut Memory, at: At)
-    ensures { λ _. ⌜ Marks (now (inputs .entry)) Ecall at (now (low .entry)) (now (low .entry)) (tagged (now (tags .entry)) (now (cells .entry))) (tagged (now (tags .exit)) (now (cells .exit))) ⌝ }
+fn mark_read(inputs: &[u64], low: &Registers, tags: &mut Registers, tagmem: &mut Memory, at: At)
+    ensures { λ _.
+        let t = tagged (now (tags .entry)) (now (tagmem .entry)) in
+        let u = tagged (now (tags .exit)) (now (tagmem .exit)) in
+        ⌜ Marks (now (inputs .entry)) Ecall at (now (low .entry)) (now (low .entry)) t u ⌝ }
 {
     put(tags, 10, 0);
     let k = at.reads;
     if k < inputs.len() {
         let a = register(low, 11);
-        store(cells, a, k as u64);
+        store(tagmem, a, k as u64);
     }
 }
 
@@ -116,20 +141,23 @@ pub fn mark(
     low: &Registers,
     high: &Registers,
     tags: &mut Registers,
-    cells: &mut Memory,
+    tagmem: &mut Memory,
     at: At,
 )
-    ensures { λ _. ⌜ Marks (now (inputs .entry)) i at (now (low .entry)) (now (high .entry)) (tagged (now (tags .entry)) (now (cells .entry))) (tagged (now (tags .exit)) (now (cells .exit))) ⌝ }
+    ensures { λ _.
+        let t = tagged (now (tags .entry)) (now (tagmem .entry)) in
+        let u = tagged (now (tags .exit)) (now (tagmem .exit)) in
+        ⌜ Marks (now (inputs .entry)) i at (now (low .entry)) (now (high .entry)) t u ⌝ }
 {
     match i {
         Instruction::Lui { rd, imm } => put(tags, rd, 0),
         Instruction::Addi { rd, rs1, imm } => mark_copied(tags, rd, rs1),
         Instruction::Register { op, rd, rs1, rs2 } => mark_result(low, high, tags, rd, rs1, rs2),
-        Instruction::Ld { rd, rs1, imm } => mark_loaded(low, tags, cells, rd, rs1, imm),
-        Instruction::Sd { rs1, rs2, imm } => mark_stored(low, tags, cells, rs1, rs2, imm),
+        Instruction::Ld { rd, rs1, imm } => mark_loaded(low, tags, tagmem, rd, rs1, imm),
+        Instruction::Sd { rs1, rs2, imm } => mark_stored(low, tags, tagmem, rs1, rs2, imm),
         Instruction::Beq { rs1, rs2, imm } => {}
         Instruction::Jal { rd, imm } => put(tags, rd, 0),
         Instruction::Jalr { rd, rs1, imm } => put(tags, rd, 0),
-        Instruction::Ecall => mark_read(inputs, low, tags, cells, at),
+        Instruction::Ecall => mark_read(inputs, low, tags, tagmem, at),
     }
 }

@@ -11,9 +11,10 @@ use riscu::plain::fetch;
 use riscu::plain::step;
 ghost use mathlib.Core.Path.{_≡_};
 ghost use lib.ListN.{replicate};
+ghost use Rattle.riscu.specs.Limits.{memoryWords};
 ghost use Rattle.riscu.specs.Machine.{start};
 ghost use Rattle.riscu.specs.Parts.{state};
-ghost use Rattle.lockstep.specs.Together.{tagged, both, advanced, together, starting};
+ghost use Rattle.lockstep.specs.Together.{tagged, both, machinesBefore, machinesAfter, advanced, together, starting};
 
 // One instruction, already decoded, at both corners.
 pub fn advance(
@@ -23,23 +24,26 @@ pub fn advance(
     high: &mut Registers,
     highmem: &mut Memory,
     tags: &mut Registers,
-    cells: &mut Memory,
+    tagmem: &mut Memory,
     lows: &[u64],
     highs: &[u64],
     at: Corners,
 ) -> Corners
-    ensures { λ r. ⌜ both r (now (low .exit)) (now (lowmem .exit)) (now (high .exit)) (now (highmem .exit)) (now (tags .exit)) (now (cells .exit)) ≡ advanced (now (lows .entry)) (now (highs .entry)) i (both at (now (low .entry)) (now (lowmem .entry)) (now (high .entry)) (now (highmem .entry)) (now (tags .entry)) (now (cells .entry))) ⌝ }
+    ensures { λ r.
+        let p = both at (machinesBefore low lowmem high highmem tags tagmem) in
+        let q = both r (machinesAfter low lowmem high highmem tags tagmem) in
+        ⌜ q ≡ advanced (now (lows .entry)) (now (highs .entry)) i p ⌝ }
 {
     let l = at.low;
     let h = at.high;
-    mark(i, lows, low, high, tags, cells, l);
+    mark(i, lows, low, high, tags, tagmem, l);
     let a = step(i, low, lowmem, lows, l);
     let b = step(i, high, highmem, highs, h);
     Corners { low: a, high: b }
 }
 
 // n steps of both corners from where they are.
-pub fn proceed_both(
+fn proceed_both(
     code: &[u32],
     n: usize,
     low: &mut Registers,
@@ -47,12 +51,15 @@ pub fn proceed_both(
     high: &mut Registers,
     highmem: &mut Memory,
     tags: &mut Registers,
-    cells: &mut Memory,
+    tagmem: &mut Memory,
     lows: &[u64],
     highs: &[u64],
     from: Corners,
 ) -> Corners
-    ensures { λ r. ⌜ both r (now (low .exit)) (now (lowmem .exit)) (now (high .exit)) (now (highmem .exit)) (now (tags .exit)) (now (cells .exit)) ≡ together (now (lows .entry)) (now (highs .entry)) (now (code .entry)) n (both from (now (low .entry)) (now (lowmem .entry)) (now (high .entry)) (now (highmem .entry)) (now (tags .entry)) (now (cells .entry))) ⌝ }
+    ensures { λ r.
+        let p = both from (machinesBefore low lowmem high highmem tags tagmem) in
+        let q = both r (machinesAfter low lowmem high highmem tags tagmem) in
+        ⌜ q ≡ together (now (lows .entry)) (now (highs .entry)) (now (code .entry)) n p ⌝ }
 {
     let mut at = from;
     let mut k: usize = 0;
@@ -62,7 +69,7 @@ pub fn proceed_both(
         let Decoded::Row(i) = d else {
             return at;
         };
-        at = advance(i, low, lowmem, high, highmem, tags, cells, lows, highs, at);
+        at = advance(i, low, lowmem, high, highmem, tags, tagmem, lows, highs, at);
         k += 1;
     }
     at
@@ -83,11 +90,11 @@ fn begin(memory: &Memory, registers: &mut Registers, words: &mut Memory) -> At
 }
 
 // No input read.
-fn clear(tags: &mut Registers, cells: &mut Memory)
-    ensures { λ _. ⌜ tagged (now (tags .exit)) (now (cells .exit)) ≡ tagged (replicate 32 0) (replicate 512 0) ⌝ }
+fn clear(tags: &mut Registers, tagmem: &mut Memory)
+    ensures { λ _. ⌜ tagged (now (tags .exit)) (now (tagmem .exit)) ≡ tagged (replicate 32 0) (replicate memoryWords 0) ⌝ }
 {
     *tags = [0u64; 32];
-    *cells = [0u64; Machine::MEMORY_WORDS];
+    *tagmem = [0u64; Machine::MEMORY_WORDS];
 }
 
 // n steps of both corners from the starting machine, with memory as lent.
@@ -100,15 +107,17 @@ pub fn replay(
     high: &mut Registers,
     highmem: &mut Memory,
     tags: &mut Registers,
-    cells: &mut Memory,
+    tagmem: &mut Memory,
     lows: &[u64],
     highs: &[u64],
 ) -> Corners
-    ensures { λ r. ⌜ both r (now (low .exit)) (now (lowmem .exit)) (now (high .exit)) (now (highmem .exit)) (now (tags .exit)) (now (cells .exit)) ≡ together (now (lows .entry)) (now (highs .entry)) (now (code .entry)) n (starting (now (memory .entry))) ⌝ }
+    ensures { λ r.
+        let q = both r (machinesAfter low lowmem high highmem tags tagmem) in
+        ⌜ q ≡ together (now (lows .entry)) (now (highs .entry)) (now (code .entry)) n (starting (now (memory .entry))) ⌝ }
 {
     let a = begin(memory, low, lowmem);
     let b = begin(memory, high, highmem);
-    clear(tags, cells);
+    clear(tags, tagmem);
     let from = Corners { low: a, high: b };
     proceed_both(
         code,
@@ -118,7 +127,7 @@ pub fn replay(
         high,
         highmem,
         tags,
-        cells,
+        tagmem,
         lows,
         highs,
         from,

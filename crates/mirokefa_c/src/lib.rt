@@ -3,13 +3,12 @@
 // The archive of this crate, libmirokefa_c.a, is what include/mirokefa.h declares.
 use calls::Outcome;
 use calls::reply;
-use explorer::border::explore;
+use explorer::call::explore;
 use serving::outcome;
 use serving::serve;
 ghost use mathlib.Core.Path.{_≡_};
-ghost use Rattle.calls.specs.Call.{callOf, called};
-ghost use Rattle.calls.specs.Door.{replyOf};
-ghost use Rattle.serving.specs.Served.{served, outcomeOf};
+ghost use Rattle.calls.specs.Border.{replyOf, callLent, calledOn};
+ghost use Rattle.serving.specs.Served.{outcomeOf, servedOn};
 
 // Explores a job and writes a page of its paths, or refuses the call.
 #[no_mangle]
@@ -22,9 +21,9 @@ pub extern "C" fn mirokefa_explore(
     report: &mut [u8],
     first: u64,
 ) -> Outcome
-    ensures answer { λ r. ⌜ r ≡ replyOf (called (now (memory .entry)) (now (table .entry)) (callOf (now (code .entry)) (now (intervals .entry)) limit (now (report .entry)) first) .reply .answer) ⌝ }
-    ensures bytes { λ r. ⌜ now (report .exit) ≡ called (now (memory .entry)) (now (table .entry)) (callOf (now (code .entry)) (now (intervals .entry)) limit (now (report .entry)) first) .reply .report ⌝ }
-    ensures words { λ r. ⌜ now (table .exit) ≡ called (now (memory .entry)) (now (table .entry)) (callOf (now (code .entry)) (now (intervals .entry)) limit (now (report .entry)) first) .table ⌝ }
+    ensures answer { λ r. ⌜ r ≡ replyOf (calledOn memory table (callLent code intervals limit report first) .reply .answer) ⌝ }
+    ensures bytes { λ r. ⌜ now (report .exit) ≡ calledOn memory table (callLent code intervals limit report first) .reply .report ⌝ }
+    ensures words { λ r. ⌜ now (table .exit) ≡ calledOn memory table (callLent code intervals limit report first) .table ⌝ }
 {
     let a = explore(code, memory, intervals, limit, table, report, first);
     reply(a)
@@ -33,8 +32,8 @@ pub extern "C" fn mirokefa_explore(
 // The server's call: job blocks in, a report out.
 #[no_mangle]
 pub extern "C" fn mirokefa_serve(job: &[u8], report: &mut [u8]) -> Outcome
-    ensures answer { λ r. ⌜ r ≡ outcomeOf (served (now (job .entry)) (now (report .entry)) .answer) ⌝ }
-    ensures bytes { λ r. ⌜ now (report .exit) ≡ served (now (job .entry)) (now (report .entry)) .report ⌝ }
+    ensures answer { λ r. ⌜ r ≡ outcomeOf (servedOn job report .answer) ⌝ }
+    ensures bytes { λ r. ⌜ now (report .exit) ≡ servedOn job report .report ⌝ }
 {
     let a = serve(job, report);
     outcome(a)

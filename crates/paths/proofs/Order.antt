@@ -18,12 +18,12 @@ use Rattle.boxes.proofs.Partition.{Rising, pieces-cut-one}
 use Rattle.listing.specs.Group.{Job, Group, viewOf}
 use Rattle.listing.specs.Listing.{Path, pathOf, splitBy, moves, enough, listing}
 use Rattle.listing.specs.Follow.{follow, Before}
-use Rattle.corners.proofs.Uniform.{Sound}
-use Rattle.corners.proofs.Corner.{Good, inputOf, class-one}
+use Rattle.corners.proofs.Corner.{class-one}
 use Rattle.corners.proofs.Moves.{Continues, followed, partition, moves-hold}
 use Rattle.corners.proofs.Enough.{none-waits}
 use Rattle.paths.proofs.Paths.{pathBoxes, groupBoxes, later-boxes}
 use Rattle.paths.proofs.Follow.{Leads, piece-here, piece-leads, whole-leads}
+use Rattle.corners.specs.Good.{Sound, Good, inputOf}
 
 before-within : {j : Job} {b d : Box} (b′ d′ : Box) → Within b′ b → Within d′ d → Before j b d → Before j b′ d′
 before-within b′ d′ w v f =

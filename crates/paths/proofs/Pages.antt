@@ -17,11 +17,10 @@ use Rattle.listing.specs.Group.{Job, Group, viewOf}
 use Rattle.listing.specs.Ending.{endOf}
 use Rattle.listing.specs.Listing.{Path, Progress, progress, splitBy, moveBy, moveFrom, moves, enough, listing}
 use Rattle.listing.specs.declared.End.{End}
-use Rattle.corners.proofs.Uniform.{Sound}
-use Rattle.corners.proofs.Corner.{Good}
 use Rattle.corners.proofs.Moves.{Continues, continues, partition, waiting-good}
 use Rattle.corners.proofs.Enough.{none-waits}
 use Rattle.corners.proofs.CornerListing.{moves-rest}
+use Rattle.corners.specs.Good.{Sound, Good}
 
 -- t goes on from s: it has the paths of s first, and no fewer paths and groups
 pub record Further (s t : Progress) : Type 0 where

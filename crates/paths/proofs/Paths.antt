@@ -11,10 +11,9 @@ use Rattle.listing.specs.Group.{Job, Group, viewOf}
 use Rattle.listing.specs.Ending.{endOf}
 use Rattle.listing.specs.declared.End.{End}
 use Rattle.listing.specs.Listing.{Path, later, pathOf, splitBy, moves, enough, listing}
-use Rattle.corners.proofs.Uniform.{Sound}
-use Rattle.corners.proofs.Corner.{Good}
 use Rattle.corners.proofs.Moves.{partition, moves-hold, moves-each}
 use Rattle.corners.proofs.Enough.{none-waits}
+use Rattle.corners.specs.Good.{Sound, Good}
 
 -- The boxes of the paths and of the groups that wait divide the starting box.
 

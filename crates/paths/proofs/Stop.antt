@@ -2,20 +2,19 @@
 -- plain machine does not stop.
 -- Assumes nothing.
 use mathlib.Core.Path.{_≡_, refl, ap, subst}
-use mathlib.Core.Logic.{inl, inr}
-use mathlib.Core.Bool.{Bool, true, false, cond, not, _&&_, _||_}
+use mathlib.Core.Bool.{Bool, true, false, cond, _||_}
 use mathlib.Core.List.{List, [], _∷_, _++_}
 use mathlib.Core.Option.{none, some}
-use Prim.Native.Nat.{ℕ, _-_, _/_, _%_, _≤_, _<_}
+use Prim.Native.Nat.{ℕ, _+_, _-_, _/_, _%_, _≤_, _<_}
 use native.Mathlib.Omega.{arith}
 use lib.Dec.{eqb, ltb}
-use lib.ListN.{length, getD}
+use lib.ListN.{getD}
 use lib.IntN.{ℤ}
 use borrow.Author.Tests.{eq-eqb, ne-eqb, le-ltb}
 use Rattle.boxes.specs.Boxes.{Choice, Box, lows, Inside}
 use Rattle.boxes.proofs.Lists.{by-test}
 use Rattle.boxes.proofs.Choices.{lows-inside}
-use Rattle.riscu.specs.Machine.{State, reg, offset, fetch}
+use Rattle.riscu.specs.Machine.{State, reg, offset, badPc, fetch}
 use Rattle.riscu.specs.Decode.{decodeOf}
 use Rattle.riscu.specs.declared.Operation.{Operation}
 use Rattle.riscu.specs.declared.Operation.the-variants.{Add, Sub, Mul, Divu, Remu, Sltu}
@@ -23,37 +22,73 @@ use Rattle.riscu.specs.declared.Instruction.{Instruction}
 use Rattle.riscu.specs.declared.Instruction.the-variants.{Lui, Addi, Register, Ld, Sd, Beq, Jal, Jalr, Ecall}
 use Rattle.riscu.specs.declared.Decoded.{Decoded}
 use Rattle.riscu.specs.declared.Decoded.the-variants.{Row, NoRow}
-use Rattle.listing.specs.Group.{Job, Group, after, View, viewOf}
-use Rattle.listing.specs.Ending.{Point, _⇒_, first, badAddress, operationPoints, points, needs, endAt, endBy, endOf}
-use Rattle.listing.specs.Stop.{operationStops, stops, stopDecoded, stopOf}
+use Rattle.listing.specs.Group.{Job, Group, after, sortOf, sortingOf, operand, View, viewOf}
+use Rattle.listing.specs.Ending.{Point, _⇒_, first, lastAddress, badAddress, openAt, valueAt, badAccess, operandOpen, operandValue, bothOpen}
+use Rattle.listing.specs.Ending.{zeroDivisor, oddMultiplier, oddDivisor, farApart, operationPoints, operandPoints, addressPoints}
+use Rattle.listing.specs.Ending.{points, needs, endAt, endBy, endOf}
+use Rattle.listing.specs.declared.Operand.{Operand}
+use Rattle.listing.specs.declared.Operand.the-variants.{InRegister, Constant}
+use Rattle.listing.specs.declared.Sorting.{Sorting}
+use Rattle.listing.specs.declared.Sorting.the-variants.{Operates, Compares, Nothing}
+use Rattle.listing.specs.Stop.{viewOfOne, stopDecoded, stopOf}
 use Rattle.listing.specs.Numbers.{kindNumber}
 use Rattle.listing.specs.declared.End.{End}
-use Rattle.listing.specs.declared.End.the-variants.{StepLimit, TraceFull, BadPc}
-use Rattle.corners.proofs.Smooth.{DataAddress, Completes, Smooth}
-use Rattle.corners.proofs.Followed.{or-false, closed, lowest-at}
-use Rattle.corners.proofs.Corner.{Good, good-uniform}
+use Rattle.listing.specs.declared.End.the-variants.{StepLimit, TraceFull, BadPc, BadWord}
+use Rattle.corners.proofs.Followed.{or-false, closed, lowest-at, operand-at}
+use Rattle.corners.proofs.Corner.{good-uniform}
+use Rattle.corners.specs.Smooth.{DataAddress, Defined, Computes, Completes, Smooth}
+use Rattle.corners.specs.Good.{Good}
 
 -- an end with a kind from 1 to 6 comes from the second list if it comes from the first
 record Stops (ps qs : List Point) : Type 0 where
   stops-by : (e : End) → kindNumber e ≤ 6 → first ps ≡ some e → first qs ≡ some e
 
-nothing : {qs : List Point} → Stops [] qs
+-- point 10 is the engine's
+full : (t : Bool) → Stops ((t ⇒ TraceFull) ∷ []) []
 unfolding first
-nothing = record { stops-by = λ e k d. let z : _≡_ {A = ℕ} 0 1 = cc in absurd (omega arith) }
+full t =
+    record {
+      stops-by = λ e k d. by-test t
+          (λ a. let b : some TraceFull ≡ some e = rw a at d in let z : TraceFull ≡ e = cc in absurd (omega (arith, ap kindNumber z)))
+          (λ a. rw a at d);
+    }
 
--- a point of the engine alone, and one of the machine
-engine : {x : End} {t : Bool} {ps qs : List Point} → 6 < kindNumber x → (t ≡ false → Stops ps qs) → Stops ((t ⇒ x) ∷ ps) qs
+-- a point of the engine, which does not apply to one choice, and one of the machine
+engine : {x : End} {t u : Bool} {ps qs : List Point} → 6 < kindNumber x → u ≡ false → (t ≡ false → Stops ps qs)
+    → Stops ((t ⇒ x) ∷ ps) ((u ⇒ x) ∷ qs)
 unfolding first
-engine {x} {t} l h =
+engine {x} {t} l q h =
     record {
       stops-by = λ e k d. by-test t
           (λ a. let b : some x ≡ some e = rw a at d in let z : x ≡ e = cc in absurd (omega (arith, ap kindNumber z)))
-          (λ a. h a .stops-by e k (rw a at d));
+          (λ a. rw q (h a .stops-by e k (rw a at d)));
     }
 
 machine : {x : End} {t u : Bool} {ps qs : List Point} → t ≡ u → Stops ps qs → Stops ((t ⇒ x) ∷ ps) ((u ⇒ x) ∷ qs)
 unfolding first
 machine {t} q h = record { stops-by = λ e k d. by-test t (λ a. rw (← q, a) (rw a at d)) (λ a. rw (← q, a) (h .stops-by e k (rw a at d))) }
+
+-- Of one choice no operand is open, and a quotient is not more than 1 from itself.
+module _ (s : State) where
+  one-closed : (a : Operand) → operandOpen (viewOfOne s) a ≡ false
+  one-closed (InRegister r) = refl
+  one-closed (Constant n) = refl
+
+  one-value : (a : Operand) → operandValue (viewOfOne s) a ≡ operand a (s .registers)
+  one-value (InRegister r) = refl
+  one-value (Constant n) = refl
+
+  one-not-both : (a b : Operand) → bothOpen (viewOfOne s) a b ≡ false
+  one-not-both a b = rw (one-closed b)
+
+  one-multiplier : (a b : Operand) → oddMultiplier (viewOfOne s) a b ≡ false
+  one-multiplier a b = rw (one-closed b)
+
+  one-divisor : (a b : Operand) → oddDivisor (viewOfOne s) a b ≡ false
+  one-divisor a b = rw (one-closed a)
+
+  one-apart : (op : Operation) (a b : Operand) → farApart (viewOfOne s) op a b ≡ false
+  one-apart op a b = let q = sortOf op (operand a (s .registers)) (operand b (s .registers)) in le-ltb (q + 1) q (omega arith)
 
 module _ (j : Job) (g : Group) (c : Choice) (m : Inside c (g .box)) where
   abbrev state : State
@@ -62,59 +97,71 @@ module _ (j : Job) (g : Group) (c : Choice) (m : Inside c (g .box)) where
   abbrev v : View
   v = viewOf j g
 
-  is : (r : ℕ) → v .isOpen (reg r) ≡ false → v .lowest (reg r) ≡ reg r state
+  is : (r : ℕ) → openAt v r ≡ false → valueAt v r ≡ reg r state
   is r o = lowest-at j g (reg r) (closed j g (reg r) o) c m
 
-  full : (t : Bool) {qs : List Point} → Stops ((t ⇒ TraceFull) ∷ []) qs
-  full t = engine (omega arith) (λ _. nothing)
+  zero : (b : Operand) → operandOpen v b ≡ false → zeroDivisor v b ≡ zeroDivisor (viewOfOne state) b
+  zero b o = cc (operand-at j g b o c m, one-value state b)
 
-  operation-stops : (op : Operation) (a b : ℕ) (t : Bool)
-      → Stops (operationPoints v op a b ++ ((t ⇒ TraceFull) ∷ [])) (operationStops op (reg b state))
-  unfolding operationPoints operationStops
-  operation-stops Add a b t = engine (omega arith) (λ _. full t)
-  operation-stops Sub a b t = engine (omega arith) (λ _. full t)
+  operation-stops : (op : Operation) (a b : Operand) (t : Bool)
+      → Stops (operationPoints v op a b ++ ((t ⇒ TraceFull) ∷ [])) (operationPoints (viewOfOne state) op a b)
+  unfolding operationPoints
+  operation-stops Add a b t = engine (omega arith) (one-not-both state a b) (λ _. full t)
+  operation-stops Sub a b t = engine (omega arith) (one-not-both state a b) (λ _. full t)
   operation-stops Mul a b t =
-      engine (omega arith) (λ _. engine (omega arith) (λ _. engine (omega arith) (λ _. engine (omega arith) (λ _. full t))))
-  operation-stops Divu a b t = engine (omega arith) (λ o. machine (cc (is b o)) (engine (omega arith) (λ _. full t)))
-  operation-stops Remu a b t = engine (omega arith) (λ o. machine (cc (is b o)) (engine (omega arith) (λ _. full t)))
-  operation-stops Sltu a b t = engine (omega arith) (λ _. full t)
+      engine (omega arith) (one-not-both state a b) (λ _.
+      engine (omega arith) (one-multiplier state a b) (λ _.
+      engine (omega arith) (one-multiplier state b a) (λ _.
+      engine (omega arith) (one-apart state Mul a b) (λ _. full t))))
+  operation-stops Divu a b t =
+      engine (omega arith) (one-closed state b) (λ o.
+      machine (zero b o) (engine (omega arith) (one-divisor state a b) (λ _. full t)))
+  operation-stops Remu a b t =
+      engine (omega arith) (one-closed state b) (λ o.
+      machine (zero b o) (engine (omega arith) (one-apart state Remu a b) (λ _. full t)))
+  operation-stops Sltu a b t = engine (omega arith) (one-not-both state a b) (λ _. full t)
 
-  address : (r : ℕ) (imm : ℤ) → v .isOpen (reg r) ≡ false → badAddress (v .lowest (offset r imm)) ≡ badAddress (offset r imm state)
-  address r imm o =
+  operands-stop : (x : Sorting) (t : Bool) → Stops (operandPoints v x ++ ((t ⇒ TraceFull) ∷ [])) (operandPoints (viewOfOne state) x)
+  unfolding operandPoints
+  operands-stop (Operates op a b) t = operation-stops op a b t
+  operands-stop (Compares a b) t = engine (omega arith) (one-not-both state a b) (λ _. full t)
+  operands-stop Nothing t = full t
+
+  access : (r : ℕ) (imm : ℤ) → openAt v r ≡ false → badAccess v r imm ≡ badAccess (viewOfOne state) r imm
+  access r imm o =
       let s = closed j g (reg r) o in
       cc (lowest-at j g (offset r imm) (λ c d m n. cc (s c d m n)) c m)
 
-  points-stop : (i : Instruction) (t : Bool) → Stops (points v i ++ ((t ⇒ TraceFull) ∷ [])) (stops i state)
-  unfolding points stops
-  points-stop (Lui rd imm) t = full t
-  points-stop (Addi rd rs1 imm) t = full t
-  points-stop (Register op rd rs1 rs2) t = by-test (eqb rd 0) (λ z. rw z (full t)) (λ z. rw z (operation-stops op rs1 rs2 t))
-  points-stop (Ld rd rs1 imm) t = engine (omega arith) (λ o. machine (address rs1 imm o) (full t))
-  points-stop (Sd rs1 rs2 imm) t = engine (omega arith) (λ o. machine (address rs1 imm o) (full t))
-  points-stop (Beq rs1 rs2 imm) t = engine (omega arith) (λ _. full t)
-  points-stop (Jal rd imm) t = full t
-  points-stop (Jalr rd rs1 imm) t = engine (omega arith) (λ _. full t)
+  points-stop : (i : Instruction) (t : Bool) → Stops (points v i ++ ((t ⇒ TraceFull) ∷ [])) (points (viewOfOne state) i)
+  unfolding points addressPoints sortingOf
+  points-stop (Lui rd imm) t = operands-stop Nothing t
+  points-stop (Addi rd rs1 imm) t = operands-stop (sortingOf (Addi rd rs1 imm)) t
+  points-stop (Register op rd rs1 rs2) t = operands-stop (sortingOf (Register op rd rs1 rs2)) t
+  points-stop (Ld rd rs1 imm) t = engine (omega arith) refl (λ o. machine (access rs1 imm o) (operands-stop Nothing t))
+  points-stop (Sd rs1 rs2 imm) t = engine (omega arith) refl (λ o. machine (access rs1 imm o) (operands-stop Nothing t))
+  points-stop (Beq rs1 rs2 imm) t = operands-stop (sortingOf (Beq rs1 rs2 imm)) t
+  points-stop (Jal rd imm) t = operands-stop Nothing t
+  points-stop (Jalr rd rs1 imm) t = engine (omega arith) refl (λ _. operands-stop Nothing t)
   points-stop Ecall t =
-      engine (omega arith) (λ o.
-      let (p, q) = or-false (v .isOpen (reg 17)) _ o in
+      let rest = operands-stop Nothing t in
+      engine (omega arith) (by-test (eqb (reg 17 state) 63) (λ z. rw z) (λ z. rw z)) (λ o.
+      let (p, q) = or-false (openAt v 17) _ o in
       let call = is 17 p in
-      by-test (eqb (v .lowest (reg 17)) 63)
+      by-test (eqb (valueAt v 17) 63)
       (λ read.
-      let (s, o₁₂) = or-false (v .isOpen (reg 10) || v .isOpen (reg 11)) (v .isOpen (reg 12)) (rw read at q) in
-      let (o₁₀, o₁₁) = or-false (v .isOpen (reg 10)) (v .isOpen (reg 11)) s in
-      machine (cc (call, is 10 o₁₀, is 12 o₁₂)) (machine (cc (call, is 11 o₁₁)) (machine (cc call) (full t))))
-      (λ read. machine (rw (← call, read)) (machine (rw (← call, read)) (machine (cc call) (full t)))))
+      let (s, o₁₂) = or-false (openAt v 10 || openAt v 11) (openAt v 12) (rw read at q) in
+      let (o₁₀, o₁₁) = or-false (openAt v 10) (openAt v 11) s in
+      machine (cc (call, is 10 o₁₀, is 12 o₁₂)) (machine (cc (call, is 11 o₁₁)) (machine (cc call) rest)))
+      (λ read. machine (rw (← call, read)) (machine (rw (← call, read)) (machine (cc call) rest))))
 
   -- the machine stops where its group ends
   pub end-stops : (e : End) → Good j g → endOf j g ≡ some e → kindNumber e ≤ 6 → stopOf (j .code) state ≡ some e
   unfolding endBy stopOf endAt stopDecoded
   end-stops e good d k =
       subst
-      (λ (p : ℕ). cond (not (eqb (p % 4) 0) || not (ltb (p / 4) (length (j .code)))) (some BadPc)
-      (stopDecoded (decodeOf (getD (j .code) (p / 4) 0)) state) ≡ some e)
+      (λ (p : ℕ). cond (badPc (j .code) p) (some BadPc) (stopDecoded (fetch (j .code) p) state) ≡ some e)
       (good-uniform j g good .pc (lows (g .box)) c (lows-inside (g .box) (good .sound .proper)) m)
-      (go (eqb (g .steps) (j .limit)) (not (eqb (v .pc % 4) 0) || not (ltb (v .pc / 4) (length (j .code))))
-      (decodeOf (getD (j .code) (v .pc / 4) 0)) d)
+      (go (eqb (g .steps) (j .limit)) (badPc (j .code) (v .pc)) (fetch (j .code) (v .pc)) d)
     where
       go : (l b : Bool) (i : Decoded) → cond l (some StepLimit) (cond b (some BadPc) (endAt j g v i)) ≡ some e
           → cond b (some BadPc) (stopDecoded i state) ≡ some e
@@ -126,37 +173,116 @@ module _ (j : Job) (g : Group) (c : Choice) (m : Inside c (g .box)) where
 -- an instruction that the machine completes does not stop it
 
 good-address : (a : ℕ) → DataAddress a → badAddress a ≡ false
-good-address a (e, l) = rw (eq-eqb (a % 8) 0 e, le-ltb 4088 a l)
+good-address a (e, l) = rw (eq-eqb (a % 8) 0 e, le-ltb lastAddress a l)
 
-completes-goes-on : (i : Instruction) (s : State) → Completes i s → first (stops i s) ≡ none
-unfolding stops operationStops first
-completes-goes-on (Lui rd imm) s h = refl
-completes-goes-on (Addi rd rs1 imm) s h = refl
-completes-goes-on (Register op rd rs1 rs2) s (inl z) = rw (eq-eqb rd 0 z)
-completes-goes-on (Register Add rd rs1 rs2) s (inr h) = by-test (eqb rd 0) (λ t. rw t) (λ t. rw t)
-completes-goes-on (Register Sub rd rs1 rs2) s (inr h) = by-test (eqb rd 0) (λ t. rw t) (λ t. rw t)
-completes-goes-on (Register Mul rd rs1 rs2) s (inr h) = by-test (eqb rd 0) (λ t. rw t) (λ t. rw t)
-completes-goes-on (Register Divu rd rs1 rs2) s (inr h) = by-test (eqb rd 0) (λ t. rw t) (λ t. rw (t, ne-eqb (reg rs2 s) 0 (omega arith)))
-completes-goes-on (Register Remu rd rs1 rs2) s (inr h) = by-test (eqb rd 0) (λ t. rw t) (λ t. rw (t, ne-eqb (reg rs2 s) 0 (omega arith)))
-completes-goes-on (Register Sltu rd rs1 rs2) s (inr h) = by-test (eqb rd 0) (λ t. rw t) (λ t. rw t)
-completes-goes-on (Ld rd rs1 imm) s h = rw (good-address (offset rs1 imm s) h)
-completes-goes-on (Sd rs1 rs2 imm) s h = rw (good-address (offset rs1 imm s) h)
-completes-goes-on (Beq rs1 rs2 imm) s h = refl
-completes-goes-on (Jal rd imm) s h = refl
-completes-goes-on (Jalr rd rs1 imm) s h = refl
-completes-goes-on Ecall s h = rw (h .0, h .1, h .2, good-address (reg 11 s) (h .3))
+module _ (s : State) where
+  not-zero : (b : Operand) → 0 < operand b (s .registers) → zeroDivisor (viewOfOne s) b ≡ false
+  not-zero b h = rw (one-value s b) (ne-eqb (operand b (s .registers)) 0 (omega arith))
 
-fetched-goes-on : (code : List ℕ) (s : State) {i : Instruction} → fetch code (s .pc) ≡ Row i → first (stops i s) ≡ none
+  operation-goes-on : (op : Operation) (a b : Operand) → Defined op (operand b (s .registers))
+      → first (operationPoints (viewOfOne s) op a b) ≡ none
+  unfolding operationPoints first
+  operation-goes-on Add a b h = rw (one-not-both s a b)
+  operation-goes-on Sub a b h = rw (one-not-both s a b)
+  operation-goes-on Mul a b h = rw (one-not-both s a b, one-multiplier s a b, one-multiplier s b a, one-apart s Mul a b)
+  operation-goes-on Divu a b h = rw (one-closed s b, not-zero b h, one-divisor s a b)
+  operation-goes-on Remu a b h = rw (one-closed s b, not-zero b h, one-apart s Remu a b)
+  operation-goes-on Sltu a b h = rw (one-not-both s a b)
+
+  operands-go-on : (x : Sorting) → Computes x s → first (operandPoints (viewOfOne s) x) ≡ none
+  unfolding operandPoints first
+  operands-go-on (Operates op a b) h = operation-goes-on op a b h
+  operands-go-on (Compares a b) h = rw (one-not-both s a b)
+  operands-go-on Nothing h = refl
+
+  completes-goes-on : (i : Instruction) → Completes i s → first (points (viewOfOne s) i) ≡ none
+  unfolding points addressPoints sortingOf first
+  completes-goes-on (Lui rd imm) h = operands-go-on Nothing tt
+  completes-goes-on (Addi rd rs1 imm) h = operands-go-on (sortingOf (Addi rd rs1 imm)) (h .1)
+  completes-goes-on (Register op rd rs1 rs2) h = operands-go-on (sortingOf (Register op rd rs1 rs2)) (h .1)
+  completes-goes-on (Ld rd rs1 imm) h = rw (good-address (offset rs1 imm s) (h .0)) (operands-go-on Nothing tt)
+  completes-goes-on (Sd rs1 rs2 imm) h = rw (good-address (offset rs1 imm s) (h .0)) (operands-go-on Nothing tt)
+  completes-goes-on (Beq rs1 rs2 imm) h = operands-go-on (sortingOf (Beq rs1 rs2 imm)) (h .1)
+  completes-goes-on (Jal rd imm) h = operands-go-on Nothing tt
+  completes-goes-on (Jalr rd rs1 imm) h = operands-go-on Nothing tt
+  completes-goes-on Ecall h =
+      let r = h .0 in
+      rw (r .0, r .1, r .2, good-address (reg 11 s) (r .3)) (operands-go-on Nothing tt)
+
+fetched-goes-on : (code : List ℕ) (s : State) {i : Instruction} → fetch code (s .pc) ≡ Row i → first (points (viewOfOne s) i) ≡ none
     → stopOf code s ≡ none
 unfolding fetch stopOf stopDecoded
-fetched-goes-on code s {i} e h = go (eqb (s .pc % 4) 0) (ltb (s .pc / 4) (length code)) (decodeOf (getD code (s .pc / 4) 0)) e
+fetched-goes-on code s {i} e h = go (badPc code (s .pc)) (decodeOf (getD code (s .pc / 4) 0)) e
   where
-    go : (t u : Bool) (d : Decoded) → cond (t && u) d NoRow ≡ Row i → cond (not t || not u) (some BadPc) (stopDecoded d s) ≡ none
-    go true true d e = rw e h
-    go true false d e = let z : _≡_ {A = ℕ} 0 1 = cc in absurd (omega arith)
-    go false u d e = let z : _≡_ {A = ℕ} 0 1 = cc in absurd (omega arith)
+    go : (t : Bool) (d : Decoded) → cond t NoRow d ≡ Row i → cond t (some BadPc) (stopDecoded (cond t NoRow d) s) ≡ none
+    go false d e = rw e h
+    go true d e = let z : _≡_ {A = ℕ} 0 1 = cc in absurd (omega arith)
 
 pub smooth-goes-on : {j : Job} {b : Box} (m : ℕ) → Smooth j b m → (c : Choice) → Inside c b → stopOf (j .code) (after j m c) ≡ none
 smooth-goes-on {j} m s c h =
     fetched-goes-on (j .code) (after j m c) (s .followed .fetched c h)
-    (completes-goes-on (s .instruction) (after j m c) (s .followed .completes c h))
+    (completes-goes-on (after j m c) (s .instruction) (s .followed .completes c h))
+
+-- Kinds 7, 8 and 9 do not stop the plain machine.
+
+record OfMachine (ps : List Point) : Type 0 where
+  kind : (e : End) → first ps ≡ some e → kindNumber e ≤ 6
+
+none-left : OfMachine []
+unfolding first
+none-left = record { kind = λ e d. let z : _≡_ {A = ℕ} 0 1 = cc in absurd (omega arith) }
+
+-- a point that does not apply, and one with such a kind
+passed : {x : End} {t : Bool} {ps : List Point} → t ≡ false → OfMachine ps → OfMachine ((t ⇒ x) ∷ ps)
+unfolding first
+passed q h = record { kind = λ e d. h .kind e (rw q at d) }
+
+lower : {x : End} {t : Bool} {ps : List Point} → kindNumber x ≤ 6 → OfMachine ps → OfMachine ((t ⇒ x) ∷ ps)
+unfolding first
+lower {x} {t} l h =
+    record {
+      kind = λ e d. by-test t
+          (λ a. let b : some x ≡ some e = rw a at d in let z : x ≡ e = cc in omega (arith, ap kindNumber z))
+          (λ a. h .kind e (rw a at d));
+    }
+
+module _ (s : State) where
+  operation-of-machine : (op : Operation) (a b : Operand) → OfMachine (operationPoints (viewOfOne s) op a b)
+  unfolding operationPoints
+  operation-of-machine Add a b = passed (one-not-both s a b) none-left
+  operation-of-machine Sub a b = passed (one-not-both s a b) none-left
+  operation-of-machine Mul a b =
+      passed (one-not-both s a b)
+      (passed (one-multiplier s a b) (passed (one-multiplier s b a) (passed (one-apart s Mul a b) none-left)))
+  operation-of-machine Divu a b = passed (one-closed s b) (lower (omega arith) (passed (one-divisor s a b) none-left))
+  operation-of-machine Remu a b = passed (one-closed s b) (lower (omega arith) (passed (one-apart s Remu a b) none-left))
+  operation-of-machine Sltu a b = passed (one-not-both s a b) none-left
+
+  operands-of-machine : (x : Sorting) → OfMachine (operandPoints (viewOfOne s) x)
+  unfolding operandPoints
+  operands-of-machine (Operates op a b) = operation-of-machine op a b
+  operands-of-machine (Compares a b) = passed (one-not-both s a b) none-left
+  operands-of-machine Nothing = none-left
+
+  points-of-machine : (i : Instruction) → OfMachine (points (viewOfOne s) i)
+  unfolding points addressPoints
+  points-of-machine (Lui rd imm) = operands-of-machine _
+  points-of-machine (Addi rd rs1 imm) = operands-of-machine _
+  points-of-machine (Register op rd rs1 rs2) = operands-of-machine _
+  points-of-machine (Ld rd rs1 imm) = passed refl (lower (omega arith) (operands-of-machine _))
+  points-of-machine (Sd rs1 rs2 imm) = passed refl (lower (omega arith) (operands-of-machine _))
+  points-of-machine (Beq rs1 rs2 imm) = operands-of-machine _
+  points-of-machine (Jal rd imm) = operands-of-machine _
+  points-of-machine (Jalr rd rs1 imm) = passed refl (operands-of-machine _)
+  points-of-machine Ecall =
+      passed (by-test (eqb (reg 17 s) 63) (λ z. rw z) (λ z. rw z))
+      (lower (omega arith) (lower (omega arith) (lower (omega arith) (operands-of-machine _))))
+
+pub stop-kinds : (code : List ℕ) (s : State) (e : End) → stopOf code s ≡ some e → kindNumber e ≤ 6
+unfolding stopOf stopDecoded
+stop-kinds code s e d = go (badPc code (s .pc)) (fetch code (s .pc)) d
+  where
+    go : (t : Bool) (i : Decoded) → cond t (some BadPc) (stopDecoded i s) ≡ some e → kindNumber e ≤ 6
+    go true i d = let z : BadPc ≡ e = cc in omega (arith, ap kindNumber z)
+    go false NoRow d = let z : BadWord ≡ e = cc in omega (arith, ap kindNumber z)
+    go false (Row i) d = points-of-machine s i .kind e d

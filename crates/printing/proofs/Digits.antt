@@ -10,8 +10,8 @@ use lib.Dec.{ltb}
 use lib.ListN.{length, length-append}
 use Rattle.boxes.proofs.Lists.{by-test}
 use Rattle.printing.specs.Printed.{digit, digitsIn, wordDigits, digits}
-use Rattle.printing.specs.Sheet.{Sheet, push, write}
-use Rattle.printing.proofs.Sheets.{write-one, then}
+use Rattle.printing.specs.Output.{Output, push, write}
+use Rattle.printing.proofs.Outputs.{write-one, then}
 
 -- more digits than there are make no difference
 digits-in : (k n : ℕ) → n < 10 ^ suc k → digitsIn (suc k) n ≡ digitsIn (suc (suc k)) n
@@ -70,10 +70,10 @@ unfolding digits
 digits-more n h l = more-in 19 n h ∙ ap (λ (ds : List ℕ). ds ++ (digit (n % 10) ∷ [])) (digits-in 18 (n / 10) (omega arith))
 
 -- a number's last digit, behind the others
-module _ (s : Sheet) (n : ℕ) where
-  pub last-digit : {t u : Sheet} → 10 ≤ n → n < 2 ^ 64 → t ≡ write s (digits (n / 10)) → u ≡ push t (digit (n % 10)) → u ≡ write s (digits n)
+module _ (s : Output) (n : ℕ) where
+  pub last-digit : {t u : Output} → 10 ≤ n → n < 2 ^ 64 → t ≡ write s (digits (n / 10)) → u ≡ push t (digit (n % 10)) → u ≡ write s (digits n)
   last-digit {t} h l e f =
       rw (digits-more n h l) (then s (digits (n / 10)) (digit (n % 10) ∷ []) e (f ∙ sym (write-one t (digit (n % 10)))))
 
-  pub only-digit : {u : Sheet} → n < 10 → u ≡ push s (digit n) → u ≡ write s (digits n)
+  pub only-digit : {u : Output} → n < 10 → u ≡ push s (digit n) → u ≡ write s (digits n)
   only-digit h f = rw (digits-one n h) (f ∙ sym (write-one s (digit n)))

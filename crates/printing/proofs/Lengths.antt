@@ -5,12 +5,14 @@ use mathlib.Core.List.{List, flatMap}
 use Prim.Native.Nat.{ℕ, zero, suc, _+_, _*_, _≤_, min}
 use native.Mathlib.Omega.{arith}
 use lib.Dec.{eqb}
-use lib.ListN.{length, drop, length-append}
+use lib.ListN.{length, length-append}
 use Rattle.boxes.specs.Boxes.{from}
 use Rattle.boxes.proofs.Lists.{by-test}
 use Rattle.blocks.specs.Block.{wordAt}
-use Rattle.blocks.specs.Record.{room, pathBytes}
-use Rattle.calls.specs.Door.{yesNumber}
+use Rattle.blocks.specs.Layout as place
+use Rattle.blocks.specs.Record.{mostInputs}
+use Rattle.blocks.specs.Report.{recordAt}
+use Rattle.calls.specs.Border.{yesNumber}
 use Rattle.printing.specs.Printed.{wordDigits, ascii, field, range, turnedAway, firstLine, lineWith, inputAt, inputs, ending, line}
 use Rattle.printing.specs.Printed.{lineAt, lines, listingText, longestRefusal, longestLine, longest}
 use Rattle.printing.proofs.Digits.{digits-length}
@@ -36,17 +38,17 @@ inputs-length : (bytes : List ℕ) (i n : ℕ) → length (flatMap (inputAt byte
 unfolding flatMap from inputAt
 inputs-length bytes i zero = omega arith
 inputs-length bytes i (suc n) =
-    let here = range-length (ascii " in ") (wordAt bytes (5 + i)) (wordAt bytes (13 + i)) in
+    let here = range-length (ascii " in ") (wordAt bytes (place.lows + i)) (wordAt bytes (place.highs + i)) in
     let rest = inputs-length bytes (suc i) n in
     rw length-append (omega arith)
 
 ending-length : (bytes : List ℕ) → length (ending bytes) ≤ 48
 unfolding ending
 ending-length bytes =
-    by-test (eqb (wordAt bytes 1) 1)
-    (λ e. rw e (range-length (ascii " exit ") (wordAt bytes 21) (wordAt bytes 22)))
-    (λ e. by-test (eqb (wordAt bytes 1) 8)
-    (λ f. rw (e, f) (omega (arith, field-length (ascii " reason ") (wordAt bytes 23))))
+    by-test (eqb (wordAt bytes place.kind) 1)
+    (λ e. rw e (range-length (ascii " exit ") (wordAt bytes place.exitLow) (wordAt bytes place.exitHigh)))
+    (λ e. by-test (eqb (wordAt bytes place.kind) 8)
+    (λ f. rw (e, f) (omega (arith, field-length (ascii " reason ") (wordAt bytes place.reason))))
     (λ f. rw (e, f) (omega arith)))
 
 -- of numbers and two texts
@@ -68,22 +70,22 @@ unfolding line inputs
 line-length bytes =
     omega (
       arith,
-      with-length (wordAt bytes 0) (wordAt bytes 1) (wordAt bytes 2) (wordAt bytes 3) (inputs bytes) (ending bytes),
-      inputs-length bytes 0 (min (wordAt bytes 4) room),
+      with-length (wordAt bytes place.number) (wordAt bytes place.kind) (wordAt bytes place.pc) (wordAt bytes place.steps) (inputs bytes) (ending bytes),
+      inputs-length bytes 0 (min (wordAt bytes place.inputs) mostInputs),
       ending-length bytes,
     )
 
-lines-length : (report : List ℕ) (i n : ℕ) → length (flatMap (lineAt report) (from i n)) ≤ longestLine * n
+lines-length : (n : ℕ) (report : List ℕ) (k m : ℕ) → length (flatMap (lineAt n report) (from k m)) ≤ longestLine * m
 unfolding flatMap from lineAt
-lines-length report i zero = omega arith
-lines-length report i (suc n) =
-    let here = line-length (drop (i * pathBytes) report) in
-    let rest = lines-length report (suc i) n in
+lines-length n report k zero = omega arith
+lines-length n report k (suc m) =
+    let here = line-length (recordAt n report k) in
+    let rest = lines-length n report (suc k) m in
     rw length-append (omega arith)
 
-pub listing-length : (count : ℕ) (more : Bool) (report : List ℕ) → length (listingText count more report) ≤ longest count
+pub listing-length : (n count : ℕ) (more : Bool) (report : List ℕ) → length (listingText n count more report) ≤ longest count
 unfolding listingText lines
-listing-length count more report =
+listing-length n count more report =
     let first = first-length count more in
-    let rest = lines-length report 0 count in
+    let rest = lines-length n report 0 count in
     rw length-append (omega arith)

@@ -5,11 +5,12 @@ use Prim.Native.String.{String, [] as ε, _∷_ as _▸_}
 use mathlib.Core.Bool.{Bool, cond}
 use mathlib.Core.List.{List, [], _∷_, _++_, flatMap}
 use lib.Dec.{ltb, eqb}
-use lib.ListN.{drop}
 use Rattle.boxes.specs.Boxes.{from}
 use Rattle.blocks.specs.Block.{wordAt}
-use Rattle.blocks.specs.Record.{room, pathBytes}
-use Rattle.calls.specs.Door.{yesNumber}
+use Rattle.blocks.specs.Layout as place
+use Rattle.blocks.specs.Record.{mostInputs}
+use Rattle.blocks.specs.Report.{recordAt}
+use Rattle.calls.specs.Border.{yesNumber}
 
 -- A word in base ten, in ASCII, the most significant digit first.
 
@@ -55,30 +56,32 @@ lineWith n kind pc steps inputs ending =
 
 -- input i: its low and its high
 unfoldable pub inputAt : List ℕ → ℕ → List ℕ
-inputAt bytes i = range (ascii " in ") (wordAt bytes (5 + i)) (wordAt bytes (13 + i))
+inputAt bytes i = range (ascii " in ") (wordAt bytes (place.lows + i)) (wordAt bytes (place.highs + i))
 
--- once per input, of which a record has room for 8
+-- once per input that the record has
 unfoldable pub inputs : List ℕ → List ℕ
-inputs bytes = flatMap (inputAt bytes) (from 0 (min (wordAt bytes 4) room))
+inputs bytes = flatMap (inputAt bytes) (from 0 (min (wordAt bytes place.inputs) mostInputs))
 
 -- `exit` only for kind 1; ` reason R` ends a kind 8 line
 unfoldable pub ending : List ℕ → List ℕ
 ending bytes =
-    cond (eqb (wordAt bytes 1) 1) (range (ascii " exit ") (wordAt bytes 21) (wordAt bytes 22))
-    (cond (eqb (wordAt bytes 1) 8) (field (ascii " reason ") (wordAt bytes 23)) [])
+    cond (eqb (wordAt bytes place.kind) 1) (range (ascii " exit ") (wordAt bytes place.exitLow) (wordAt bytes place.exitHigh))
+    (cond (eqb (wordAt bytes place.kind) 8) (field (ascii " reason ") (wordAt bytes place.reason)) [])
 
 unfoldable pub line : List ℕ → List ℕ
-line bytes = lineWith (wordAt bytes 0) (wordAt bytes 1) (wordAt bytes 2) (wordAt bytes 3) (inputs bytes) (ending bytes)
+line bytes =
+    lineWith (wordAt bytes place.number) (wordAt bytes place.kind) (wordAt bytes place.pc) (wordAt bytes place.steps)
+    (inputs bytes) (ending bytes)
 
--- record i of a report, and the first n
-unfoldable pub lineAt : List ℕ → ℕ → List ℕ
-lineAt report i = line (drop (i * pathBytes) report)
+-- record k of a report of n inputs, and the first records of it
+unfoldable pub lineAt : ℕ → List ℕ → ℕ → List ℕ
+lineAt n report k = line (recordAt n report k)
 
-unfoldable pub lines : ℕ → List ℕ → List ℕ
-lines n report = flatMap (lineAt report) (from 0 n)
+unfoldable pub lines : ℕ → ℕ → List ℕ → List ℕ
+lines n count report = flatMap (lineAt n report) (from 0 count)
 
-unfoldable pub listingText : ℕ → Bool → List ℕ → List ℕ
-listingText count more report = firstLine count more ++ lines count report
+unfoldable pub listingText : ℕ → ℕ → Bool → List ℕ → List ℕ
+listingText n count more report = firstLine count more ++ lines n count report
 
 -- No output is longer: numbers have at most 20 digits.
 
@@ -87,7 +90,7 @@ longestRefusal = 33
 
 -- 101 bytes up to the steps, 46 for each input, 48 for an exit, and the line feed
 abbrev pub longestLine : ℕ
-longestLine = 101 + 46 * room + 48 + 1
+longestLine = 101 + 46 * mostInputs + 48 + 1
 
 abbrev pub longest : ℕ → ℕ
 longest count = 53 + longestLine * count

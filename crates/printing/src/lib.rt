@@ -5,31 +5,37 @@ use crate::lines::put_lines;
 use crate::writer::put_field;
 use crate::writer::put_text;
 use calls::yes_number;
-ghost use mathlib.Core.Path.{_≡_};
 ghost use Prim.Native.Nat.{_*_, _≤_};
 ghost use lib.ListN.{length};
-ghost use Rattle.blocks.specs.Record.{pathBytes};
+ghost use Rattle.blocks.specs.Record.{recordBytes};
 ghost use Rattle.printing.specs.Printed.{turnedAway, listingText};
-ghost use Rattle.printing.specs.Sheet.{fitted, fitting};
+ghost use Rattle.printing.specs.Output.{Prints};
 
-pub mod lines;
-pub mod writer;
+mod lines;
+mod writer;
 
 // Writes `turned away N` at the start of `out`, as far as it fits, and answers how many bytes it wrote.
 pub fn print_refusal(number: u64, out: &mut [u8]) -> usize
-    ensures { λ r. ⌜ (now (out .exit) ≡ fitted (turnedAway number) (now (out .entry))) × (r ≡ fitting (turnedAway number) (now (out .entry))) ⌝ }
+    ensures { λ r. ⌜ Prints out r (turnedAway number) ⌝ }
 {
     let p = put_field(out, 0, b"turned away ", number);
     put_text(out, p, b"\n")
 }
 
-// Writes the listing of the report's first `count` records at the start of `out`, as far as it fits, and answers how many bytes it wrote.
-pub fn print_listing(report: &[u8], count: usize, more: bool, out: &mut [u8]) -> usize
-    requires { ⌜ count * pathBytes ≤ length (now report) ⌝ }
-    ensures { λ r. ⌜ (now (out .exit) ≡ fitted (listingText count more (now (report .entry))) (now (out .entry))) × (r ≡ fitting (listingText count more (now (report .entry))) (now (out .entry))) ⌝ }
+// Writes the listing of the first `count` records of a report, with their input count, at the start of `out`, as far as it fits,
+// and answers how many bytes it wrote.
+pub fn print_listing(
+    report: &[u8],
+    inputs: usize,
+    count: usize,
+    more: bool,
+    out: &mut [u8],
+) -> usize
+    requires { ⌜ count * recordBytes inputs ≤ length (now report) ⌝ }
+    ensures { λ r. ⌜ Prints out r (listingText inputs count more (now (report .entry))) ⌝ }
 {
     let mut p = put_field(out, 0, b"paths ", count as u64);
     p = put_field(out, p, b" more ", yes_number(more));
     p = put_text(out, p, b"\n");
-    put_lines(report, count, out, p)
+    put_lines(report, inputs, count, out, p)
 }

@@ -1,48 +1,49 @@
-// The lines of a report's records, from their words; `base` is where a record starts.
+// The lines of a report's records, from their words; `inputs` is the input count of its paths, `k` the record's place in it.
 use crate::writer::put_field;
 use crate::writer::put_range;
 use crate::writer::put_text;
-use blocks::PATH_BYTES;
-use blocks::ROOM;
-use blocks::WORD_BYTES;
-use blocks::words::word_at;
+use blocks::MOST_INPUTS;
+use blocks::layout::EXIT_HIGH;
+use blocks::layout::EXIT_LOW;
+use blocks::layout::INPUTS;
+use blocks::layout::KIND;
+use blocks::layout::NUMBER;
+use blocks::layout::PC;
+use blocks::layout::REASON;
+use blocks::layout::STEPS;
+use blocks::report::input_high;
+use blocks::report::input_low;
+use blocks::report::record_word;
 ghost use mathlib.Core.Path.{_≡_};
-ghost use Prim.Native.Nat.{_+_, _*_, _≤_, _<_, min};
-ghost use lib.ListN.{length, drop};
-ghost use Rattle.blocks.specs.Block.{wordAt, blockWords};
-ghost use Rattle.blocks.specs.Record.{room, pathBytes};
-ghost use Rattle.printing.specs.Printed.{inputs, ending, line, lines};
-ghost use Rattle.printing.specs.Sheet.{sheet, write};
+ghost use Prim.Native.Nat.{_*_, _≤_, _<_, min};
+ghost use lib.ListN.{length};
+ghost use Rattle.blocks.specs.Record.{mostInputs, recordBytes};
+ghost use Rattle.blocks.specs.Report.{recordsIn, recordAt};
+ghost use Rattle.printing.specs.Printed as printed;
+ghost use Rattle.printing.specs.Printed.{ending, line, lines};
+ghost use Rattle.printing.specs.Output.{Writes};
 
-// Word k of a record's first block.
-fn record_word(report: &[u8], base: usize, k: usize) -> u64
-    requires { ⌜ (base + pathBytes ≤ length (now report)) × (k < blockWords) ⌝ }
-    ensures { λ r. ⌜ r ≡ wordAt (drop base (now (report .entry))) k ⌝ }
-{
-    word_at(report, base + k * WORD_BYTES)
-}
-
-// How many inputs a record shows: no more than it has room for.
+// How many inputs a record shows: no more than it has places for.
 fn shown_inputs(count: u64) -> usize
-    ensures { λ r. ⌜ r ≡ min count room ⌝ }
+    ensures { λ r. ⌜ r ≡ min count mostInputs ⌝ }
 {
-    if count < ROOM as u64 {
+    if count < MOST_INPUTS as u64 {
         return count as usize;
     }
-    ROOM
+    MOST_INPUTS
 }
 
 // The inputs of a record, each with its interval.
-fn put_inputs(report: &[u8], base: usize, out: &mut [u8], at: usize) -> usize
-    requires { ⌜ base + pathBytes ≤ length (now report) ⌝ }
-    ensures { λ r. ⌜ sheet (now (out .exit)) r ≡ write (sheet (now (out .entry)) at) (inputs (drop base (now (report .entry)))) ⌝ }
+fn put_inputs(report: &[u8], inputs: usize, k: usize, out: &mut [u8], at: usize) -> usize
+    requires { ⌜ k < recordsIn inputs (now report) ⌝ }
+    ensures { λ r. ⌜ Writes out at r (printed.inputs (recordAt inputs (now (report .entry)) k)) ⌝ }
 {
-    let count = shown_inputs(record_word(report, base, 4));
+    let count = shown_inputs(record_word(report, inputs, k, INPUTS));
     let mut p = at;
     let mut i: usize = 0;
     while i < count {
-        let low = record_word(report, base, 5 + i);
-        let high = record_word(report, base, 13 + i);
+        let low = input_low(report, inputs, k, i);
+        let high = input_high(report, inputs, k, i);
         p = put_range(out, p, b" in ", low, high);
         i += 1;
     }
@@ -50,47 +51,47 @@ fn put_inputs(report: &[u8], base: usize, out: &mut [u8], at: usize) -> usize
 }
 
 // The exit value of kind 1, the reason of kind 8, and nothing for the others.
-fn put_ending(report: &[u8], base: usize, out: &mut [u8], at: usize) -> usize
-    requires { ⌜ base + pathBytes ≤ length (now report) ⌝ }
-    ensures { λ r. ⌜ sheet (now (out .exit)) r ≡ write (sheet (now (out .entry)) at) (ending (drop base (now (report .entry)))) ⌝ }
+fn put_ending(report: &[u8], inputs: usize, k: usize, out: &mut [u8], at: usize) -> usize
+    requires { ⌜ k < recordsIn inputs (now report) ⌝ }
+    ensures { λ r. ⌜ Writes out at r (ending (recordAt inputs (now (report .entry)) k)) ⌝ }
 {
-    let kind = record_word(report, base, 1);
+    let kind = record_word(report, inputs, k, KIND);
     if kind == 1 {
-        let low = record_word(report, base, 21);
-        let high = record_word(report, base, 22);
+        let low = record_word(report, inputs, k, EXIT_LOW);
+        let high = record_word(report, inputs, k, EXIT_HIGH);
         return put_range(out, at, b" exit ", low, high);
     }
     if kind == 8 {
-        let reason = record_word(report, base, 23);
+        let reason = record_word(report, inputs, k, REASON);
         return put_field(out, at, b" reason ", reason);
     }
     at
 }
 
 // The line of a record.
-fn put_line(report: &[u8], base: usize, out: &mut [u8], at: usize) -> usize
-    requires { ⌜ base + pathBytes ≤ length (now report) ⌝ }
-    ensures { λ r. ⌜ sheet (now (out .exit)) r ≡ write (sheet (now (out .entry)) at) (line (drop base (now (report .entry)))) ⌝ }
+fn put_line(report: &[u8], inputs: usize, k: usize, out: &mut [u8], at: usize) -> usize
+    requires { ⌜ k < recordsIn inputs (now report) ⌝ }
+    ensures { λ r. ⌜ Writes out at r (line (recordAt inputs (now (report .entry)) k)) ⌝ }
 {
-    let mut p = put_field(out, at, b"path ", record_word(report, base, 0));
-    p = put_field(out, p, b" end ", record_word(report, base, 1));
-    p = put_field(out, p, b" at ", record_word(report, base, 2));
-    p = put_field(out, p, b" steps ", record_word(report, base, 3));
-    p = put_inputs(report, base, out, p);
-    p = put_ending(report, base, out, p);
+    let mut p = put_field(out, at, b"path ", record_word(report, inputs, k, NUMBER));
+    p = put_field(out, p, b" end ", record_word(report, inputs, k, KIND));
+    p = put_field(out, p, b" at ", record_word(report, inputs, k, PC));
+    p = put_field(out, p, b" steps ", record_word(report, inputs, k, STEPS));
+    p = put_inputs(report, inputs, k, out, p);
+    p = put_ending(report, inputs, k, out, p);
     put_text(out, p, b"\n")
 }
 
 // The lines of the report's first `count` records.
-pub fn put_lines(report: &[u8], count: usize, out: &mut [u8], at: usize) -> usize
-    requires { ⌜ count * pathBytes ≤ length (now report) ⌝ }
-    ensures { λ r. ⌜ sheet (now (out .exit)) r ≡ write (sheet (now (out .entry)) at) (lines count (now (report .entry))) ⌝ }
+pub fn put_lines(report: &[u8], inputs: usize, count: usize, out: &mut [u8], at: usize) -> usize
+    requires { ⌜ count * recordBytes inputs ≤ length (now report) ⌝ }
+    ensures { λ r. ⌜ Writes out at r (lines inputs count (now (report .entry))) ⌝ }
 {
     let mut p = at;
-    let mut i: usize = 0;
-    while i < count {
-        p = put_line(report, i * PATH_BYTES, out, p);
-        i += 1;
+    let mut k: usize = 0;
+    while k < count {
+        p = put_line(report, inputs, k, out, p);
+        k += 1;
     }
     p
 }

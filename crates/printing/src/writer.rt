@@ -1,11 +1,11 @@
 // Texts and numbers on a lent slice: each function writes from `at` on, as far as it fits, and answers where the next byte goes.
 ghost use mathlib.Core.Path.{_≡_};
 ghost use Rattle.printing.specs.Printed.{digits, field, range};
-ghost use Rattle.printing.specs.Sheet.{sheet, push, write};
+ghost use Rattle.printing.specs.Output.{output, push, Writes};
 
 // One byte.
 fn put_byte(out: &mut [u8], at: usize, b: u8) -> usize
-    ensures { λ r. ⌜ sheet (now (out .exit)) r ≡ push (sheet (now (out .entry)) at) b ⌝ }
+    ensures { λ r. ⌜ output (now (out .exit)) r ≡ push (output (now (out .entry)) at) b ⌝ }
 {
     if at < out.len() {
         out[at] = b;
@@ -16,7 +16,7 @@ fn put_byte(out: &mut [u8], at: usize, b: u8) -> usize
 
 // A text.
 pub fn put_text(out: &mut [u8], at: usize, text: &[u8]) -> usize
-    ensures { λ r. ⌜ sheet (now (out .exit)) r ≡ write (sheet (now (out .entry)) at) (now (text .entry)) ⌝ }
+    ensures { λ r. ⌜ Writes out at r (now (text .entry)) ⌝ }
 {
     let mut p = at;
     let mut i: usize = 0;
@@ -28,8 +28,8 @@ pub fn put_text(out: &mut [u8], at: usize, text: &[u8]) -> usize
 }
 
 // A number in base ten: at most 20 calls deep, since MAX has 20 digits.
-pub fn put_digits(out: &mut [u8], at: usize, n: u64) -> usize
-    ensures { λ r. ⌜ sheet (now (out .exit)) r ≡ write (sheet (now (out .entry)) at) (digits n) ⌝ }
+fn put_digits(out: &mut [u8], at: usize, n: u64) -> usize
+    ensures { λ r. ⌜ Writes out at r (digits n) ⌝ }
 {
     if n < 10 {
         return put_byte(out, at, 48 + n as u8);
@@ -40,7 +40,7 @@ pub fn put_digits(out: &mut [u8], at: usize, n: u64) -> usize
 
 // A name and a number.
 pub fn put_field(out: &mut [u8], at: usize, name: &[u8], n: u64) -> usize
-    ensures { λ r. ⌜ sheet (now (out .exit)) r ≡ write (sheet (now (out .entry)) at) (field (now (name .entry)) n) ⌝ }
+    ensures { λ r. ⌜ Writes out at r (field (now (name .entry)) n) ⌝ }
 {
     let p = put_text(out, at, name);
     put_digits(out, p, n)
@@ -48,7 +48,7 @@ pub fn put_field(out: &mut [u8], at: usize, name: &[u8], n: u64) -> usize
 
 // A name and an interval.
 pub fn put_range(out: &mut [u8], at: usize, name: &[u8], low: u64, high: u64) -> usize
-    ensures { λ r. ⌜ sheet (now (out .exit)) r ≡ write (sheet (now (out .entry)) at) (range (now (name .entry)) low high) ⌝ }
+    ensures { λ r. ⌜ Writes out at r (range (now (name .entry)) low high) ⌝ }
 {
     let p = put_field(out, at, name, low);
     put_field(out, p, b"..", high)

@@ -1,11 +1,17 @@
--- What a reader must believe of RISC-U; the last two say how the code holds it.
+-- What a reader must believe of RISC-U; the last four are working notions.
 --     Word        machine words, two's complement of any width
 --     Decode      the instruction table, and the fields of a word
 --     Machine     the plain machine
+--     Limits      how much code and memory it has
 --     Table       the table as the code holds it
 --     Parts       a state as the code holds it
+--     Whole       what every state keeps
+--     Lent        a list that is lent to a function, in its contract
 pub mod Word
 pub mod Decode
 pub mod Table
 pub mod Machine
+pub mod Limits
 pub mod Parts
+pub mod Whole
+pub mod Lent

@@ -1,15 +1,30 @@
 // Runs Job A and document 01's rules on trial, in its order, through the exploration, and prints each listing in its form.
 // Below each path stand the inputs read and every register that is not 0 all along, as the two blocks have them.
 // All calls are made on one memory and, but for the case of one entry, on one table.
+use blocks::BLOCK_WORDS;
 use blocks::PATH_BYTES;
 use blocks::WORD_BYTES;
+use blocks::layout::EXIT_HIGH;
+use blocks::layout::EXIT_LOW;
+use blocks::layout::HIGHS;
+use blocks::layout::INPUTS;
+use blocks::layout::KIND;
+use blocks::layout::LOWS;
+use blocks::layout::NUMBER;
+use blocks::layout::PC;
+use blocks::layout::READS;
+use blocks::layout::REASON;
+use blocks::layout::STEPS;
 use blocks::words::word_at;
 use calls::Outcome;
 use calls::reply;
-use explorer::border::explore;
+use explorer::call::explore;
 
 // One path more than any of these cases has.
 const REPORT: usize = 4 * PATH_BYTES;
+
+// Register r has words 2r - 1 and 2r of the second block.
+const REGISTERS: usize = BLOCK_WORDS - 1;
 
 // A word of a path's two blocks, and 0 past the report.
 fn word(report: &[u8], path: usize, place: usize) -> u64 {
@@ -42,20 +57,24 @@ fn print_interval(label: &[u8], low: u64, high: u64) {
 
 // At most two inputs are in these cases.
 fn print_inputs(report: &[u8], path: usize) {
-    let inputs = word(report, path, 4);
+    let inputs = word(report, path, INPUTS);
     if 0 < inputs {
-        print_interval(b" in ", word(report, path, 5), word(report, path, 13));
+        print_interval(b" in ", word(report, path, LOWS), word(report, path, HIGHS));
     }
     if 1 < inputs {
-        print_interval(b" in ", word(report, path, 6), word(report, path, 14));
+        print_interval(
+            b" in ",
+            word(report, path, LOWS + 1),
+            word(report, path, HIGHS + 1),
+        );
     }
 }
 
 fn print_registers(report: &[u8], path: usize) {
     let mut r: usize = 1;
     while r < 32 {
-        let low = word(report, path, 63 + 2 * r);
-        let high = word(report, path, 64 + 2 * r);
+        let low = word(report, path, REGISTERS + 2 * r);
+        let high = word(report, path, BLOCK_WORDS + 2 * r);
         if (low != 0) | (high != 0) {
             print_number(b" x", r as u64);
             print_interval(b" ", low, high);
@@ -66,19 +85,23 @@ fn print_registers(report: &[u8], path: usize) {
 
 // A path, in document 01's form, and below it what that leaves out.
 fn print_path(report: &[u8], path: usize) {
-    let kind = word(report, path, 1);
-    print_number(b"path ", word(report, path, 0));
+    let kind = word(report, path, KIND);
+    print_number(b"path ", word(report, path, NUMBER));
     print_number(b" end ", kind);
-    print_number(b" at ", word(report, path, 2));
-    print_number(b" steps ", word(report, path, 3));
+    print_number(b" at ", word(report, path, PC));
+    print_number(b" steps ", word(report, path, STEPS));
     print_inputs(report, path);
     if kind == 1 {
-        print_interval(b" exit ", word(report, path, 21), word(report, path, 22));
+        print_interval(
+            b" exit ",
+            word(report, path, EXIT_LOW),
+            word(report, path, EXIT_HIGH),
+        );
     }
     if kind == 8 {
-        print_number(b" reason ", word(report, path, 23));
+        print_number(b" reason ", word(report, path, REASON));
     }
-    print_number(b"\n    read ", word(report, path, 24));
+    print_number(b"\n    read ", word(report, path, READS));
     print_registers(report, path);
     io::write_all(1, b"\n");
 }

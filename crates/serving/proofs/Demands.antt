@@ -10,7 +10,7 @@ use native.Mathlib.Omega.{arith}
 use lib.Dec.{ltb}
 use lib.ListN.{length, replicate, length-replicate}
 use Rattle.boxes.proofs.Lists.{_∈_}
-use Rattle.calls.specs.Call.{Call, Left, left, Reply, isPage, asks, firstNo, door, jobOf, page, replyBy, replyTo, tableBy, called}
+use Rattle.calls.specs.Call.{Call, Left, left, Reply, isPage, asks, firstNo, refusalOf, jobOf, page, replyBy, replyTo, tableBy, called}
 use Rattle.calls.specs.Engine.{Lent, Leaves, Exchange, History, over, made}
 use Rattle.calls.specs.Reported.{Reported}
 use Rattle.calls.specs.Together.{Together}
@@ -19,36 +19,28 @@ use Rattle.calls.specs.declared.Answer.the-variants as answer
 use Rattle.calls.specs.declared.Refusal.{Refusal}
 use Rattle.calls.specs.declared.Refusal.the-variants.{Report}
 use Rattle.demands.proofs.Demands.{leaves-meets, demand-2, demand-3}
-use Rattle.jobs.specs.Job.{jobRead, callIn, jobDoor}
+use Rattle.jobs.specs.Job.{jobRead, callIn, jobRefusalOf}
 use Rattle.jobs.specs.declared.JobRefusal.{JobRefusal}
 use Rattle.jobs.specs.declared.JobRefusal.the-variants as job
-use Rattle.jobs.proofs.Accepted.{accepted-door}
+use Rattle.jobs.proofs.Accepted.{accepted-refusal}
 use Rattle.listing.specs.Group.{Job}
 use Rattle.listing.specs.Listing.{listing}
 use Rattle.serving.specs.Served.{tableWords, reply, servedAs, servedLeft, servedBy, served}
 use Rattle.serving.specs.Server.{zeros, Bytes, ServedCall, questionOf, answerOf, exchangeOf, ServedOn}
 use Rattle.serving.specs.declared.Served.the-variants.{Refused, Listed}
+use Rattle.serving.proofs.JobPassed.{listed-passes}
 use Rattle.serving.proofs.Lent.{lent}
 
 pub zeros-length : length zeros ≡ tableWords
 zeros-length = length-replicate {A = ℕ} tableWords 0
 
 -- a job that a question refuses: the refusal, and the report as lent
-pub served-refused : {r : JobRefusal} (job report : List ℕ) → jobDoor job ≡ some r → served job report ≡ servedLeft (Refused r) report
+pub served-refused : {r : JobRefusal} (job report : List ℕ) → jobRefusalOf job ≡ some r → served job report ≡ servedLeft (Refused r) report
 unfolding served servedBy
 served-refused job report e = rw e
 
--- only a job that passes its questions is listed
-pub listed-passes : {n : ℕ} {m : Bool} (job report : List ℕ) → served job report .answer ≡ Listed n m → jobDoor job ≡ none
-unfolding served servedBy
-listed-passes {n} {m} job report e = go (jobDoor job) e
-  where
-    go : (o : Option JobRefusal) → servedBy job report o .answer ≡ Listed n m → o ≡ none
-    go none e = refl
-    go (some r) e = let z : _≡_ {A = ℕ} 0 1 = cc in absurd (omega arith)
-
 -- demand 1: a job that passes its questions is refused by question 7 alone, and otherwise listed
-module _ (bytes report : List ℕ) (e : jobDoor bytes ≡ none) where
+module _ (bytes report : List ℕ) (e : jobRefusalOf bytes ≡ none) where
   abbrev memory : List ℕ
   memory = jobRead bytes .memory
 
@@ -58,18 +50,18 @@ module _ (bytes report : List ℕ) (e : jobDoor bytes ≡ none) where
   abbrev j : Job
   j = jobOf memory tableWords c
 
-  passed-door : door memory tableWords c ≡ cond (asks memory tableWords c Report) none (some Report)
+  report-question : refusalOf memory tableWords c ≡ cond (asks memory tableWords c Report) none (some Report)
   unfolding firstNo
-  passed-door = accepted-door bytes report tableWords e (omega arith)
+  report-question = accepted-refusal bytes report tableWords e (omega arith)
 
   pub report-refused : asks memory tableWords c Report ≡ false → served bytes report ≡ servedLeft (Refused (job.Call Report)) report
   unfolding served servedBy servedAs replyTo replyBy
-  report-refused a = rw (e, passed-door, a)
+  report-refused a = rw (e, report-question, a)
 
   pub report-listed : asks memory tableWords c Report ≡ true
       → served bytes report .answer ≡ Listed (length (page j c)) (ltb (c .first + length (page j c)) (length (listing j)))
   unfolding served servedBy servedAs replyTo replyBy
-  report-listed a = rw (e, passed-door, a)
+  report-listed a = rw (e, report-question, a)
 
 -- what the call that a job stands for leaves
 abbrev pub leftBy : List ℕ → List ℕ → Left
@@ -81,7 +73,7 @@ answer-back (answer.Refused r) = refl
 answer-back (answer.Page n m) = refl
 
 -- of a job that passes its questions, the server's call leaves that call's answer and report
-pub served-called : (job report : List ℕ) → jobDoor job ≡ none
+pub served-called : (job report : List ℕ) → jobRefusalOf job ≡ none
     → reply (answerOf (served job report .answer)) (served job report .report) ≡ leftBy job report .reply
 unfolding served servedBy called
 served-called job report e = rw (e, zeros-length, answer-back (replyTo (jobRead job .memory) tableWords (callIn job report) .answer))
@@ -110,7 +102,7 @@ zero-stays n none = ap (λ (k : ℕ). replicate k 0) (length-replicate {A = ℕ}
 
 table-stays : (memory : List ℕ) (c : Call) → called memory zeros c .table ≡ zeros
 unfolding called
-table-stays memory c = zero-stays tableWords (door memory (length zeros) c)
+table-stays memory c = zero-stays tableWords (refusalOf memory (length zeros) c)
 
 -- such a call leaves what the call that it stands for leaves
 exchange-called : (memory : List ℕ) (y : ServedCall) → ServedOn memory y → exchangeOf y .left ≡ called memory zeros (exchangeOf y .call)

@@ -9,9 +9,11 @@ use lib.Seq.{getD-drop}
 use Rattle.boxes.specs.Boxes.{from}
 use Rattle.boxes.proofs.Lists.{by-test}
 use Rattle.blocks.specs.Block.{wordBytes, blockWords, payloadWords, numberOf, wordAt}
-use Rattle.blocks.proofs.Bytes.{room-more, getD-padded}
+use Rattle.blocks.proofs.Bytes.{below-more, getD-padded}
 use Rattle.calls.specs.Call.{Below}
 use Rattle.calls.specs.Engine.{Lent}
+use Rattle.riscu.specs.Limits.{memoryWords}
+use Rattle.jobs.specs.Header as header
 use Rattle.jobs.specs.Job.{codeCount, inputCount, givenCount, firstCode, firstMemory, payloadAt, codeAt, memoryAt, intervalAt, codeIn, intervalsIn, memoryIn, jobRead, callIn}
 use Rattle.serving.specs.Served.{tableWords}
 use Rattle.serving.specs.Server.{zeros, Bytes}
@@ -20,8 +22,8 @@ use Rattle.serving.specs.Server.{zeros, Bytes}
 number-below : (n : ℕ) (bs : List ℕ) → Below (2 ^ 8) bs → numberOf (take n bs) < 256 ^ n
 unfolding numberOf
 number-below zero bs h = omega arith
-number-below (suc n) [] h = omega (arith, room-more n 0 (numberOf (take n [])) (omega arith) (number-below n [] h))
-number-below (suc n) (b ∷ bs) h = room-more n b (numberOf (take n bs)) (h 0) (number-below n bs (λ k. h (suc k)))
+number-below (suc n) [] h = omega (arith, below-more n 0 (numberOf (take n [])) (omega arith) (number-below n [] h))
+number-below (suc n) (b ∷ bs) h = below-more n b (numberOf (take n bs)) (h 0) (number-below n bs (λ k. h (suc k)))
 
 map-below : (n : ℕ) (f : ℕ → ℕ) (l : List ℕ) → 0 < n → ((i : ℕ) → f i < n) → Below n (map f l)
 map-below n f [] p h k = p
@@ -47,11 +49,11 @@ module _ (job : List ℕ) (bytes : Below (2 ^ 8) job) where
 
   interval-below : (i : ℕ) → intervalAt job i < 2 ^ 64
   unfolding intervalAt
-  interval-below i = by-test (eqb (i % 2) 0) (λ e. rw e (word-below (5 + i / 2))) (λ e. rw e (word-below (13 + i / 2)))
+  interval-below i = by-test (eqb (i % 2) 0) (λ e. rw e (word-below (header.lows + i / 2))) (λ e. rw e (word-below (header.highs + i / 2)))
 
   memory-below : Below (2 ^ 64) (memoryIn job)
   unfolding memoryIn
-  memory-below k = rw (getD-padded (map (memoryAt job) (from 0 (givenCount job))) (512 - givenCount job) k)
+  memory-below k = rw (getD-padded (map (memoryAt job) (from 0 (givenCount job))) (memoryWords - givenCount job) k)
       (map-below (2 ^ 64) (memoryAt job) (from 0 (givenCount job)) (omega arith) (payload-below (firstMemory job)) k)
 
 -- the call that a job stands for is lent what its types say
@@ -64,9 +66,9 @@ lent job report b =
       typed = record {
         code = map-below (2 ^ 32) (codeAt job) (from 0 (codeCount job)) (omega arith) (code-below job (b .of-job));
         intervals = map-below (2 ^ 64) (intervalAt job) (from 0 (2 * inputCount job)) (omega arith) (interval-below job (b .of-job));
-        limit = word-below job (b .of-job) 3;
+        limit = word-below job (b .of-job) header.limit;
         report = b .of-report;
         bytes = b .size;
-        first = word-below job (b .of-job) 4;
+        first = word-below job (b .of-job) header.first;
       };
     }

@@ -4,64 +4,66 @@ use mathlib.Core.Path.{_≡_, refl, sym, ap, _∙_}
 use mathlib.Core.Bool.{Bool, true}
 use mathlib.Core.List.{List, _++_}
 use mathlib.Core.Option.{none}
-use Prim.Native.Nat.{ℕ, _+_, _*_, _/_, _^_, _≤_, _<_}
+use Prim.Native.Nat.{ℕ, _+_, _*_, _^_, _≤_, _<_}
 use native.Mathlib.Omega.{arith}
 use borrow.Author.Tests.{ltb-true}
 use lib.Dec.{ltb}
 use lib.ListN.{length, drop, length-take}
 use Rattle.boxes.proofs.Lists.{_∈_}
 use Rattle.boxes.proofs.Places.{part-mem}
-use Rattle.blocks.specs.Record.{pathBytes}
+use Rattle.blocks.specs.Record.{recordBytes}
+use Rattle.blocks.specs.Report.{recordsIn}
 use Rattle.blocks.proofs.Reading.{Fits}
-use Rattle.calls.specs.Call.{Call, Typed, Below, Reply, isPage, asks, door, jobOf, page, replyBy, replyTo, called}
+use Rattle.calls.specs.Call.{Call, inputsOf, Typed, Below, Reply, isPage, asks, refusalOf, jobOf, page, replyBy, replyTo, called}
+use Rattle.calls.specs.Limits.{firstEnd}
 use Rattle.calls.specs.declared.Answer.the-variants.{Page}
 use Rattle.calls.specs.declared.Refusal.the-variants.{First}
 use Rattle.demands.proofs.Accepted.{accepted-yes, accepted-sound, job-inputs}
-use Rattle.demands.proofs.Refuses.{page-door}
+use Rattle.demands.proofs.Refuses.{page-passes}
 use Rattle.demands.proofs.Words.{path-fits}
-use Rattle.jobs.specs.Job.{jobRead, callIn, jobNumber}
+use Rattle.jobs.specs.Job.{inputCount, jobRead, callIn, jobNumber}
 use Rattle.listing.specs.Group.{Job}
 use Rattle.listing.specs.Listing.{Path, listing}
 use Rattle.printing.specs.Printed.{listingText, longest}
-use Rattle.printing.specs.Sheet.{fitted, fitting}
+use Rattle.printing.specs.Output.{fitted, fitting}
 use Rattle.printing.specs.Shown.{listingOf}
 use Rattle.printing.proofs.Lengths.{listing-length, refusal-length}
-use Rattle.printing.proofs.Sheets.{all-fits}
+use Rattle.printing.proofs.Outputs.{all-fits}
 use Rattle.printing.proofs.Told.{listing-told}
 use Rattle.serving.specs.Response.{reportPaths, responseBy, responseTo}
 use Rattle.serving.specs.Served.{tableWords, reply, servedLeft, served}
 use Rattle.serving.specs.Server.{Bytes}
 use Rattle.serving.specs.declared.Served.{Served}
 use Rattle.serving.specs.declared.Served.the-variants.{Refused, Listed}
-use Rattle.serving.proofs.Opened.{listed-fits}
+use Rattle.serving.proofs.JobPassed.{listed-fits}
 use Rattle.serving.proofs.Lent.{lent}
 use Rattle.serving.proofs.Demands.{zeros-length, listed-called}
 
 -- no text is longer than a full report's
-pub response-length : (job report : List ℕ) → length (responseTo (served job report)) ≤ longest (length report / pathBytes)
+pub response-length : (job report : List ℕ) → length (responseTo job (served job report)) ≤ longest (recordsIn (inputCount job) report)
 unfolding responseBy
 response-length job report = go (served job report .answer) refl
   where
-    go : (a : Served) → served job report .answer ≡ a → length (responseBy a (served job report .report)) ≤ longest (length report / pathBytes)
+    go : (a : Served) → served job report .answer ≡ a → length (responseBy (inputCount job) a (served job report .report)) ≤ longest (recordsIn (inputCount job) report)
     go (Refused r) e = omega (arith, refusal-length (jobNumber r))
     go (Listed n m) e =
         let l = served job report .report in
         let f = listed-fits job report l (ap (λ (a : Served). servedLeft a l) (sym e)) in
-        omega (arith, listing-length n m l)
+        omega (arith, listing-length (inputCount job) n m l)
 
 -- so where such a text fits, the whole text is written
-pub response-whole : (job report out : List ℕ) → longest (length report / pathBytes) ≤ length out
-    → let text = responseTo (served job report) in (fitted text out ≡ text ++ drop (length text) out) × (fitting text out ≡ length text)
+pub response-whole : (job report out : List ℕ) → longest (recordsIn (inputCount job) report) ≤ length out
+    → let text = responseTo job (served job report) in (fitted text out ≡ text ++ drop (length text) out) × (fitting text out ≡ length text)
 response-whole job report out h =
-    all-fits (responseTo (served job report)) out (omega (arith, response-length job report))
+    all-fits (responseTo job (served job report)) out (omega (arith, response-length job report))
 
 -- the program's report, and as many bytes for the text
-pub program-whole : (job report out : List ℕ) → length report ≡ reportPaths * pathBytes → length out ≡ length report
-    → let text = responseTo (served job report) in (fitted text out ≡ text ++ drop (length text) out) × (fitting text out ≡ length text)
+pub program-whole : (job report out : List ℕ) → length report ≡ reportPaths * recordBytes (inputCount job) → length out ≡ length report
+    → let text = responseTo job (served job report) in (fitted text out ≡ text ++ drop (length text) out) × (fitting text out ≡ length text)
 program-whole job report out r o = response-whole job report out (omega arith)
 
 -- an accepted call's page as text
-module _ (memory : List ℕ) (words : ℕ) (c : Call) (bounded : Below (2 ^ 64) memory) (typed : Typed c) (d : door memory words c ≡ none) where
+module _ (memory : List ℕ) (words : ℕ) (c : Call) (bounded : Below (2 ^ 64) memory) (typed : Typed c) (d : refusalOf memory words c ≡ none) where
   abbrev j : Job
   j = jobOf memory words c
 
@@ -71,27 +73,27 @@ module _ (memory : List ℕ) (words : ℕ) (c : Call) (bounded : Below (2 ^ 64) 
   page-few : c .first + length ps ≤ 2 ^ 64
   unfolding page asks
   page-few =
-      let first = ltb-true (c .first) (2 ^ 32) (accepted-yes memory words c d First) in
+      let first = ltb-true (c .first) firstEnd (accepted-yes memory words c d First) in
       rw length-take (omega (arith, typed .bytes))
 
   page-fits : (p : Path) → p ∈ ps → (k : ℕ) → k < 2 ^ 64 → Fits k p
   unfolding page jobOf
   page-fits p i =
       path-fits j (accepted-sound memory words c d bounded (typed .intervals)) (typed .limit) p
-      (part-mem (length (c .report) / pathBytes) (c .first) (listing j) i) (job-inputs memory words c d)
+      (part-mem (recordsIn (inputsOf c) (c .report)) (c .first) (listing j) i) (job-inputs memory words c d)
 
-  page-shown : {n : ℕ} {m : Bool} {left : List ℕ} → reply (Page n m) left ≡ replyTo memory words c → listingText n m left ≡ listingOf (c .first) ps m
+  page-shown : {n : ℕ} {m : Bool} {left : List ℕ} (inputs : ℕ) → reply (Page n m) left ≡ replyTo memory words c → listingText inputs n m left ≡ listingOf (c .first) ps m
   unfolding replyTo replyBy
-  page-shown {n} {m} {left} e =
+  page-shown {n} {m} {left} inputs e =
       let f : reply (Page n m) left ≡ replyBy memory words c none = e ∙ ap (replyBy memory words c) d in
       let a : Page n m ≡ Page (length ps) (ltb (c .first + length ps) (length (listing j))) = ap (λ (y : Reply). y .answer) f in
       let count : n ≡ length ps = cc in
       let bytes = ap (λ (y : Reply). y .report) f in
-      rw (count, bytes) (listing-told (2 ^ 64) (drop (pathBytes * length ps) (c .report)) (c .first) ps m page-few page-fits)
+      rw (count, bytes) (listing-told inputs (2 ^ 64) (drop (recordBytes (inputsOf c) * length ps) (c .report)) (c .first) ps m page-few page-fits)
 
 -- the text of a listing
 pub response-shown : {n : ℕ} {m : Bool} (job report : List ℕ) → Bytes job report → served job report .answer ≡ Listed n m
-    → responseTo (served job report) ≡ listingOf (callIn job report .first) (page (jobOf (jobRead job .memory) tableWords (callIn job report)) (callIn job report)) m
+    → responseTo job (served job report) ≡ listingOf (callIn job report .first) (page (jobOf (jobRead job .memory) tableWords (callIn job report)) (callIn job report)) m
 unfolding responseBy isPage called replyTo
 response-shown {n} {m} job report b e =
     let l = lent job report b in
@@ -99,4 +101,4 @@ response-shown {n} {m} job report b e =
     let memory = jobRead job .memory in
     let q : reply (Page n m) (served job report .report) ≡ replyTo memory tableWords c = rw zeros-length at (listed-called job report e) in
     let a : isPage (replyTo memory tableWords c .answer) ≡ true = ap (λ (y : Reply). isPage (y .answer)) (sym q) in
-    rw e (page-shown memory tableWords c (l .memory-words) (l .typed) (page-door memory tableWords c (door memory tableWords c) a) q)
+    rw e (page-shown memory tableWords c (l .memory-words) (l .typed) (page-passes memory tableWords c (refusalOf memory tableWords c) a) (inputCount job) q)

@@ -1,13 +1,17 @@
 -- The server's call: job blocks in, a report out, with the program's table and questions, and then 7.
-use Prim.Native.Nat.{ℕ}
+use Prim.Native.Nat.{ℕ, _*_}
 use mathlib.Core.List.{List}
 use mathlib.Core.Option.{Option, none, some}
-use Rattle.calls.specs.Call.{Reply, replyTo}
-use Rattle.calls.specs.Door.{replyOf}
+use denote.Ref.{now}
+use lib.ListN.{take}
+use Rattle.riscu.specs.Lent.{LentList}
+use Rattle.calls.specs.Call.{Call, callOf, Reply, replyTo}
+use Rattle.calls.specs.Border.{replyOf}
 use Rattle.calls.specs.declared.Answer.{Answer}
 use Rattle.calls.specs.declared.Answer.the-variants as answer
 use Rattle.calls.specs.declared.Outcome.{Outcome}
-use Rattle.jobs.specs.Job.{jobRead, callIn, jobDoor, jobNumber}
+use Rattle.jobs.specs.Job.{jobRead, callIn, jobRefusalOf, jobNumber}
+use Rattle.jobs.specs.declared.Counts.{Counts}
 use Rattle.jobs.specs.declared.JobRefusal.{JobRefusal}
 use Rattle.jobs.specs.declared.JobRefusal.the-variants as job
 use Rattle.serving.specs.declared.Served.{Served}
@@ -41,9 +45,19 @@ servedBy bytes report none =
 
 -- the job's questions come first
 unfoldable pub served : List ℕ → List ℕ → ServedLeft
-served bytes report = servedBy bytes report (jobDoor bytes)
+served bytes report = servedBy bytes report (jobRefusalOf bytes)
 
 -- the answer in numbers
 unfoldable pub outcomeOf : Served → Outcome
 outcomeOf (Refused r) = record { refused = jobNumber r; count = 0; more = 0 }
 outcomeOf (Listed n m) = replyOf (answer.Page n m)
+
+-- What is lent at the call, for the contracts.
+
+-- the call of what was read: as much of the code and the intervals as the counts say
+abbrev pub callRead : LentList → LentList → Counts → LentList → Call
+callRead code intervals k report =
+    callOf (take (k .code) (now (code .entry))) (take (2 * k .inputs) (now (intervals .entry))) (k .limit) (now (report .entry)) (k .first)
+
+abbrev pub servedOn : LentList → LentList → ServedLeft
+servedOn job report = served (now (job .entry)) (now (report .entry))

@@ -10,7 +10,7 @@ use Rattle.calls.specs.declared.Answer.{Answer}
 use Rattle.calls.specs.declared.Answer.the-variants as answer
 use Rattle.calls.specs.declared.Refusal.{Refusal}
 use Rattle.calls.specs.declared.Refusal.the-variants.{Report}
-use Rattle.jobs.specs.Job.{jobRead, callIn, jobDoor}
+use Rattle.jobs.specs.Job.{jobRead, callIn, jobRefusalOf}
 use Rattle.jobs.specs.declared.JobRefusal.{JobRefusal}
 use Rattle.jobs.specs.declared.JobRefusal.the-variants as job
 use Rattle.serving.specs.Served.{tableWords, ServedLeft, served}
@@ -55,6 +55,6 @@ exchangeOf y =
 -- a call of the server on a job that passes its questions and brings this memory
 pub record ServedOn (memory : List ℕ) (y : ServedCall) : Type 0 where
   pub bytes : Bytes (y .job) (y .report)
-  pub passes : jobDoor (y .job) ≡ none
+  pub passes : jobRefusalOf (y .job) ≡ none
   pub brings : jobRead (y .job) .memory ≡ memory
   pub leaves : y .left ≡ served (y .job) (y .report)

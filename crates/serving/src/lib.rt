@@ -1,29 +1,30 @@
 // The course server's call and the program's answer, on bytes: job blocks in, a report or its text out.
 // Both explore the job with a table of their own; the server's call asks the program's questions and then question 7.
 // What a reader must believe stands in specs/: what a served call leaves, its part in the demands, and the program's text.
-use blocks::ROOM;
+use blocks::MOST_INPUTS;
 use calls::Answer;
 use calls::Outcome;
 use calls::questions::CODE_WORDS;
 use calls::reply;
-use explorer::border::explore;
+use explorer::call::explore;
 use jobs::Counts;
 use jobs::JobAnswer;
 use jobs::JobRefusal;
 use jobs::job_number;
+use jobs::reading::input_count;
 use jobs::reading::read_job;
 use printing::print_listing;
 use printing::print_refusal;
 use riscu::plain::Machine;
 ghost use mathlib.Core.Path.{_≡_};
 ghost use Prim.Native.Nat.{_*_, _≤_};
-ghost use lib.ListN.{length, take};
-ghost use Rattle.calls.specs.Call.{callOf, replyTo};
-ghost use Rattle.printing.specs.Sheet.{fitted, fitting};
-ghost use Rattle.serving.specs.Response.{responseTo};
-ghost use Rattle.serving.specs.Served.{tableWords, reply, servedAs, servedLeft, served, outcomeOf};
+ghost use lib.ListN.{length};
+ghost use Rattle.calls.specs.Call.{replyTo};
+ghost use Rattle.printing.specs.Output.{fitted, fitting};
+ghost use Rattle.serving.specs.Response.{responseOn};
+ghost use Rattle.serving.specs.Served.{tableWords, reply, servedAs, servedLeft, outcomeOf, callRead, servedOn};
 
-pub const TABLE_WORDS: usize = 8192;
+const TABLE_WORDS: usize = 8192;
 
 // What a served call answers.
 pub enum Served {
@@ -40,7 +41,7 @@ fn explore_read(
     report: &mut [u8],
 ) -> Answer
     requires { ⌜ (counts .code ≤ length (now code)) × (2 * counts .inputs ≤ length (now intervals)) ⌝ }
-    ensures { λ r. ⌜ reply r (now (report .exit)) ≡ replyTo (now (memory .entry)) tableWords (callOf (take (counts .code) (now (code .entry))) (take (2 * counts .inputs) (now (intervals .entry))) (counts .limit) (now (report .entry)) (counts .first)) ⌝ }
+    ensures { λ r. ⌜ reply r (now (report .exit)) ≡ replyTo (now (memory .entry)) tableWords (callRead code intervals counts report) ⌝ }
 {
     let n = counts.code as usize;
     let m = 2 * counts.inputs as usize;
@@ -68,10 +69,10 @@ fn served_as(a: Answer) -> Served
 
 // Reads a job, explores it and writes a page of its paths, or refuses it.
 pub fn serve(job: &[u8], report: &mut [u8]) -> Served
-    ensures { λ r. ⌜ servedLeft r (now (report .exit)) ≡ served (now (job .entry)) (now (report .entry)) ⌝ }
+    ensures { λ r. ⌜ servedLeft r (now (report .exit)) ≡ servedOn job report ⌝ }
 {
     let mut code = [0u32; CODE_WORDS];
-    let mut intervals = [0u64; 2 * ROOM];
+    let mut intervals = [0u64; 2 * MOST_INPUTS];
     let mut memory = [0u64; Machine::MEMORY_WORDS];
     let answer = read_job(job, &mut code, &mut intervals, &mut memory);
     match answer {
@@ -99,13 +100,16 @@ pub fn outcome(a: Served) -> Outcome
 
 // The program's answer to a job, written at the start of `out`, as far as it fits; how many bytes it wrote.
 pub fn respond(job: &[u8], report: &mut [u8], out: &mut [u8]) -> usize
-    ensures text { λ r. ⌜ now (out .exit) ≡ fitted (responseTo (served (now (job .entry)) (now (report .entry)))) (now (out .entry)) ⌝ }
-    ensures size { λ r. ⌜ r ≡ fitting (responseTo (served (now (job .entry)) (now (report .entry)))) (now (out .entry)) ⌝ }
-    ensures bytes { λ r. ⌜ now (report .exit) ≡ served (now (job .entry)) (now (report .entry)) .report ⌝ }
+    ensures text { λ r. ⌜ now (out .exit) ≡ fitted (responseOn job report) (now (out .entry)) ⌝ }
+    ensures size { λ r. ⌜ r ≡ fitting (responseOn job report) (now (out .entry)) ⌝ }
+    ensures bytes { λ r. ⌜ now (report .exit) ≡ servedOn job report .report ⌝ }
 {
     let a = serve(job, report);
     match a {
         Served::Refused(r) => print_refusal(job_number(r), out),
-        Served::Listed { count, more } => print_listing(report, count as usize, more, out),
+        Served::Listed { count, more } => {
+            let inputs = input_count(job);
+            print_listing(report, inputs, count as usize, more, out)
+        }
     }
 }

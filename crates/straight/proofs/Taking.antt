@@ -8,6 +8,7 @@ use native.Mathlib.Omega.{arith}
 use lib.Dec.{ltb}
 use lib.ListN.{length, getD}
 use borrow.Author.Tests.{eq-eqb, ne-eqb, lt-ltb, le-ltb}
+use Rattle.riscu.specs.Machine.{fetch}
 use Rattle.riscu.specs.Decode.{decodeOf}
 use Rattle.riscu.specs.declared.At.{At}
 use Rattle.riscu.specs.declared.Instruction.{Instruction}
@@ -20,45 +21,46 @@ use Rattle.decide.specs.declared.Limits.{Limits}
 use Rattle.decide.specs.declared.Used.{Used}
 use Rattle.decide.specs.declared.Decision.the-variants.{Steps}
 use Rattle.decide.specs.declared.Verdict.the-variants.{Passes}
+use Rattle.lockstep.specs.Together.{Machines}
 use Rattle.lockstep.specs.declared.Corners.{Corners}
 use Rattle.straight.specs.Stepped.{Goes, Stepped, FormStepped, DecidedStep}
 use Rattle.straight.specs.declared.Straight.{Straight}
 use Rattle.straight.specs.declared.Straight.the-variants.{Taken, Left}
 
 -- no point applies, the class is the same at both corners, and the entries suffice
-pub goes : {room : ℕ} (i : Instruction) {l h : List ℕ} {w : ℕ} → verdict (points (cornerView l h) i) ≡ Passes
-    → classOf i (machine l) ≡ classOf i (machine h) → ((left : Bool) → w ≡ writes left i) → w ≤ room → Goes room i l h w
+pub goes : {entries : ℕ} (i : Instruction) {l h : List ℕ} {w : ℕ} → verdict (points (cornerView l h) i) ≡ Passes
+    → classOf i (machine l) ≡ classOf i (machine h) → ((left : Bool) → w ≡ writes left i) → w ≤ entries → Goes entries i l h w
 unfolding rowDecision unlessEnds onward
-goes {room} i {l} {h} v k e n =
+goes {entries} i {l} {h} v k e n =
     let same : sameClass i l h ≡ true = eq-eqb _ _ k in
-    record { steps = λ left. rw (v, same, le-ltb room (writes left i + 0) (omega (arith, e left))); entries = e }
+    record { steps = λ left. rw (v, same, le-ltb entries (writes left i + 0) (omega (arith, e left))); takes = e }
 
 -- a row's straight step is that of a word of the row
-pub of-row : (room : ℕ) (d : Decoded) (i : Instruction) (a : Corners) (l c h o t v l′ c′ h′ o′ t′ v′ : List ℕ) → d ≡ Row i
-    → (r : Straight) → Stepped room i a l c h o t v l′ c′ h′ o′ t′ v′ r → FormStepped room d a l c h o t v l′ c′ h′ o′ t′ v′ r
-of-row room d i a l c h o t v l′ c′ h′ o′ t′ v′ e (Taken b w) k = record { instruction = i; is = e; goes = k .0; moves = k .1 }
-of-row room d i a l c h o t v l′ c′ h′ o′ t′ v′ e Left k = k
+pub of-row : {d : Decoded} {i : Instruction} (entries : ℕ) (a : Corners) (x y : Machines) → d ≡ Row i → (r : Straight)
+    → Stepped entries i a x y r → FormStepped entries d a x y r
+of-row {i = i} entries a x y e (Taken b w) k = record { instruction = i; is = e; goes = k .0; moves = k .1 }
+of-row entries a x y e Left k = k
 
 -- the decision on a word that the code has at pc
 pub decided : (code : List ℕ) (m : Limits) (u : Used) (a : At) (l h : List ℕ) {i : Instruction}
     → u .steps ≢ m .steps → a .pc % 4 ≡ 0 → a .pc / 4 < length code → decodeOf (getD code (a .pc / 4) 0) ≡ Row i
     → ((left : Bool) → rowDecision (m .entries - u .entries) left l h (Row i) ≡ Steps i) → decision code m u a l h ≡ Steps i
-unfolding decision
+unfolding decision fetch
 decided code m u a l h s p q e k =
     let left = ltb (a .reads) (m .inputs) in
     simp (ne-eqb (u .steps) (m .steps) s, eq-eqb (a .pc % 4) 0 p, lt-ltb (a .pc / 4) (length code) q)
     (ap (rowDecision (m .entries - u .entries) left l h) e ∙ k left)
 
 -- its straight step is the code's
-pub from-word : (code : List ℕ) (m : Limits) (u : Used) (a : Corners) (l c h o t v l′ c′ h′ o′ t′ v′ : List ℕ)
-    → u .steps ≢ m .steps → a .low .pc % 4 ≡ 0 → a .low .pc / 4 < length code
-    → (r : Straight) → FormStepped (m .entries - u .entries) (decodeOf (getD code (a .low .pc / 4) 0)) a l c h o t v l′ c′ h′ o′ t′ v′ r
-    → DecidedStep code m u a l c h o t v l′ c′ h′ o′ t′ v′ r
-from-word code m u a l c h o t v l′ c′ h′ o′ t′ v′ s p q (Taken b w) k =
+pub from-word : (code : List ℕ) (m : Limits) (u : Used) (a : Corners) (x y : Machines) → u .steps ≢ m .steps → a .low .pc % 4 ≡ 0
+    → a .low .pc / 4 < length code
+    → (r : Straight) → FormStepped (m .entries - u .entries) (decodeOf (getD code (a .low .pc / 4) 0)) a x y r
+    → DecidedStep code m u a x y r
+from-word code m u a x y s p q (Taken b w) k =
     record {
       instruction = k .instruction;
-      steps = decided code m u (a .low) l h s p q (k .is) (k .goes .steps);
-      entries = k .goes .entries (ltb (a .low .reads) (m .inputs));
+      steps = decided code m u (a .low) (x .low) (x .high) s p q (k .is) (k .goes .steps);
+      takes = k .goes .takes (ltb (a .low .reads) (m .inputs));
       moves = k .moves;
     }
-from-word code m u a l c h o t v l′ c′ h′ o′ t′ v′ s p q Left k = k
+from-word code m u a x y s p q Left k = k

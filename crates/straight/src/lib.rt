@@ -1,7 +1,7 @@
 // A straight step decided and taken at once: what `decide` says of the rows that most steps are, and then the step of `lockstep`,
 // with one look at the word. Where it says no, nothing has moved, and the whole decision is asked.
 // It changes what an exploration costs and nothing else: a step taken here is the one that the decision and the lock step give.
-pub mod rows;
+mod rows;
 pub mod steps;
 
 use lockstep::Corners;

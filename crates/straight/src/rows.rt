@@ -33,10 +33,11 @@ use riscu::plain::sd;
 ghost use Rattle.riscu.specs.declared.Instruction.the-variants.{Lui, Addi, Register, Ld, Sd, Beq, Jal};
 ghost use Rattle.riscu.specs.Decode.{decodeOf};
 ghost use Rattle.riscu.specs.Table.{formOf};
+ghost use Rattle.lockstep.specs.Together.{machinesBefore, machinesAfter};
 ghost use Rattle.straight.specs.Stepped.{Stepped, RegistersStepped, NothingWritten, FormStepped};
 
 fn straight_lui(
-    room: usize,
+    entries: usize,
     low: &mut Registers,
     high: &mut Registers,
     tags: &mut Registers,
@@ -44,10 +45,10 @@ fn straight_lui(
     imm: i64,
     at: Corners,
 ) -> Straight
-    ensures { λ r. ⌜ RegistersStepped room (Lui rd imm) at (now (low .entry)) (now (high .entry)) (now (tags .entry)) (now (low .exit)) (now (high .exit)) (now (tags .exit)) r ⌝ }
+    ensures { λ r. ⌜ RegistersStepped entries (Lui rd imm) at low high tags r ⌝ }
 {
     let w = one_unless_zero(rd);
-    if room < w {
+    if entries < w {
         return Straight::Left;
     }
     put(tags, rd, 0);
@@ -60,7 +61,7 @@ fn straight_lui(
 }
 
 fn straight_addi(
-    room: usize,
+    entries: usize,
     low: &mut Registers,
     high: &mut Registers,
     tags: &mut Registers,
@@ -69,7 +70,7 @@ fn straight_addi(
     imm: i64,
     at: Corners,
 ) -> Straight
-    ensures { λ r. ⌜ RegistersStepped room (Addi rd rs1 imm) at (now (low .entry)) (now (high .entry)) (now (tags .entry)) (now (low .exit)) (now (high .exit)) (now (tags .exit)) r ⌝ }
+    ensures { λ r. ⌜ RegistersStepped entries (Addi rd rs1 imm) at low high tags r ⌝ }
 {
     let a = addi_class(low, rd, rs1, imm);
     let b = addi_class(high, rd, rs1, imm);
@@ -77,7 +78,7 @@ fn straight_addi(
         return Straight::Left;
     }
     let w = one_unless_zero(rd);
-    if room < w {
+    if entries < w {
         return Straight::Left;
     }
     mark_copied(tags, rd, rs1);
@@ -90,7 +91,7 @@ fn straight_addi(
 }
 
 fn straight_operation(
-    room: usize,
+    entries: usize,
     low: &mut Registers,
     high: &mut Registers,
     tags: &mut Registers,
@@ -100,7 +101,7 @@ fn straight_operation(
     rs2: usize,
     at: Corners,
 ) -> Straight
-    ensures { λ r. ⌜ RegistersStepped room (Register op rd rs1 rs2) at (now (low .entry)) (now (high .entry)) (now (tags .entry)) (now (low .exit)) (now (high .exit)) (now (tags .exit)) r ⌝ }
+    ensures { λ r. ⌜ RegistersStepped entries (Register op rd rs1 rs2) at low high tags r ⌝ }
 {
     let v = register_points(op, rd, low, high, rs1, rs2);
     let Verdict::Passes = v else {
@@ -112,7 +113,7 @@ fn straight_operation(
         return Straight::Left;
     }
     let w = one_unless_zero(rd);
-    if room < w {
+    if entries < w {
         return Straight::Left;
     }
     mark_result(low, high, tags, rd, rs1, rs2);
@@ -125,29 +126,32 @@ fn straight_operation(
 }
 
 fn straight_load(
-    room: usize,
+    entries: usize,
     low: &mut Registers,
     lowmem: &mut Memory,
     high: &mut Registers,
     highmem: &mut Memory,
     tags: &mut Registers,
-    cells: &mut Memory,
+    tagmem: &mut Memory,
     rd: usize,
     rs1: usize,
     imm: i64,
     at: Corners,
 ) -> Straight
-    ensures { λ r. ⌜ Stepped room (Ld rd rs1 imm) at (now (low .entry)) (now (lowmem .entry)) (now (high .entry)) (now (highmem .entry)) (now (tags .entry)) (now (cells .entry)) (now (low .exit)) (now (lowmem .exit)) (now (high .exit)) (now (highmem .exit)) (now (tags .exit)) (now (cells .exit)) r ⌝ }
+    ensures { λ r.
+        let x = machinesBefore low lowmem high highmem tags tagmem in
+        let y = machinesAfter low lowmem high highmem tags tagmem in
+        ⌜ Stepped entries (Ld rd rs1 imm) at x y r ⌝ }
 {
     let v = access_points(low, high, rs1, imm);
     let Verdict::Passes = v else {
         return Straight::Left;
     };
     let w = one_unless_zero(rd);
-    if room < w {
+    if entries < w {
         return Straight::Left;
     }
-    mark_loaded(low, tags, cells, rd, rs1, imm);
+    mark_loaded(low, tags, tagmem, rd, rs1, imm);
     let l = ld(low, lowmem, rd, rs1, imm, at.low);
     let h = ld(high, highmem, rd, rs1, imm, at.high);
     Straight::Taken {
@@ -157,28 +161,31 @@ fn straight_load(
 }
 
 fn straight_store(
-    room: usize,
+    entries: usize,
     low: &mut Registers,
     lowmem: &mut Memory,
     high: &mut Registers,
     highmem: &mut Memory,
     tags: &mut Registers,
-    cells: &mut Memory,
+    tagmem: &mut Memory,
     rs1: usize,
     rs2: usize,
     imm: i64,
     at: Corners,
 ) -> Straight
-    ensures { λ r. ⌜ Stepped room (Sd rs1 rs2 imm) at (now (low .entry)) (now (lowmem .entry)) (now (high .entry)) (now (highmem .entry)) (now (tags .entry)) (now (cells .entry)) (now (low .exit)) (now (lowmem .exit)) (now (high .exit)) (now (highmem .exit)) (now (tags .exit)) (now (cells .exit)) r ⌝ }
+    ensures { λ r.
+        let x = machinesBefore low lowmem high highmem tags tagmem in
+        let y = machinesAfter low lowmem high highmem tags tagmem in
+        ⌜ Stepped entries (Sd rs1 rs2 imm) at x y r ⌝ }
 {
     let v = access_points(low, high, rs1, imm);
     let Verdict::Passes = v else {
         return Straight::Left;
     };
-    if room < 1 {
+    if entries < 1 {
         return Straight::Left;
     }
-    mark_stored(low, tags, cells, rs1, rs2, imm);
+    mark_stored(low, tags, tagmem, rs1, rs2, imm);
     let l = sd(low, lowmem, rs1, rs2, imm, at.low);
     let h = sd(high, highmem, rs1, rs2, imm, at.high);
     Straight::Taken {
@@ -215,7 +222,7 @@ fn straight_branch(
 }
 
 fn straight_jump(
-    room: usize,
+    entries: usize,
     low: &mut Registers,
     high: &mut Registers,
     tags: &mut Registers,
@@ -223,10 +230,10 @@ fn straight_jump(
     imm: i64,
     at: Corners,
 ) -> Straight
-    ensures { λ r. ⌜ RegistersStepped room (Jal rd imm) at (now (low .entry)) (now (high .entry)) (now (tags .entry)) (now (low .exit)) (now (high .exit)) (now (tags .exit)) r ⌝ }
+    ensures { λ r. ⌜ RegistersStepped entries (Jal rd imm) at low high tags r ⌝ }
 {
     let w = one_unless_zero(rd);
-    if room < w {
+    if entries < w {
         return Straight::Left;
     }
     put(tags, rd, 0);
@@ -242,57 +249,60 @@ fn straight_jump(
 fn straight_row(
     row: usize,
     w: usize,
-    room: usize,
+    entries: usize,
     low: &mut Registers,
     lowmem: &mut Memory,
     high: &mut Registers,
     highmem: &mut Memory,
     tags: &mut Registers,
-    cells: &mut Memory,
+    tagmem: &mut Memory,
     at: Corners,
 ) -> Straight
-    ensures { λ r. ⌜ FormStepped room (formOf row w) at (now (low .entry)) (now (lowmem .entry)) (now (high .entry)) (now (highmem .entry)) (now (tags .entry)) (now (cells .entry)) (now (low .exit)) (now (lowmem .exit)) (now (high .exit)) (now (highmem .exit)) (now (tags .exit)) (now (cells .exit)) r ⌝ }
+    ensures { λ r.
+        let x = machinesBefore low lowmem high highmem tags tagmem in
+        let y = machinesAfter low lowmem high highmem tags tagmem in
+        ⌜ FormStepped entries (formOf row w) at x y r ⌝ }
 {
     let rd = w / 128 % 32;
     let rs1 = w / 32768 % 32;
     let rs2 = w / 1048576 % 32;
     match row {
-        0 => straight_lui(room, low, high, tags, rd, imm_u(w), at),
-        1 => straight_addi(room, low, high, tags, rd, rs1, imm_i(w), at),
-        2 => straight_operation(room, low, high, tags, Operation::Add, rd, rs1, rs2, at),
-        3 => straight_operation(room, low, high, tags, Operation::Sub, rd, rs1, rs2, at),
-        4 => straight_operation(room, low, high, tags, Operation::Mul, rd, rs1, rs2, at),
-        5 => straight_operation(room, low, high, tags, Operation::Divu, rd, rs1, rs2, at),
-        6 => straight_operation(room, low, high, tags, Operation::Remu, rd, rs1, rs2, at),
-        7 => straight_operation(room, low, high, tags, Operation::Sltu, rd, rs1, rs2, at),
+        0 => straight_lui(entries, low, high, tags, rd, imm_u(w), at),
+        1 => straight_addi(entries, low, high, tags, rd, rs1, imm_i(w), at),
+        2 => straight_operation(entries, low, high, tags, Operation::Add, rd, rs1, rs2, at),
+        3 => straight_operation(entries, low, high, tags, Operation::Sub, rd, rs1, rs2, at),
+        4 => straight_operation(entries, low, high, tags, Operation::Mul, rd, rs1, rs2, at),
+        5 => straight_operation(entries, low, high, tags, Operation::Divu, rd, rs1, rs2, at),
+        6 => straight_operation(entries, low, high, tags, Operation::Remu, rd, rs1, rs2, at),
+        7 => straight_operation(entries, low, high, tags, Operation::Sltu, rd, rs1, rs2, at),
         8 => straight_load(
-            room,
+            entries,
             low,
             lowmem,
             high,
             highmem,
             tags,
-            cells,
+            tagmem,
             rd,
             rs1,
             imm_i(w),
             at,
         ),
         9 => straight_store(
-            room,
+            entries,
             low,
             lowmem,
             high,
             highmem,
             tags,
-            cells,
+            tagmem,
             rs1,
             rs2,
             imm_s(w),
             at,
         ),
         10 => straight_branch(low, high, rs1, rs2, imm_b(w), at),
-        11 => straight_jump(room, low, high, tags, rd, imm_j(w), at),
+        11 => straight_jump(entries, low, high, tags, rd, imm_j(w), at),
         _ => Straight::Left,
     }
 }
@@ -300,18 +310,32 @@ fn straight_row(
 // The straight step of a word.
 pub fn straight_word(
     word: u32,
-    room: usize,
+    entries: usize,
     low: &mut Registers,
     lowmem: &mut Memory,
     high: &mut Registers,
     highmem: &mut Memory,
     tags: &mut Registers,
-    cells: &mut Memory,
+    tagmem: &mut Memory,
     at: Corners,
 ) -> Straight
-    ensures { λ r. ⌜ FormStepped room (decodeOf word) at (now (low .entry)) (now (lowmem .entry)) (now (high .entry)) (now (highmem .entry)) (now (tags .entry)) (now (cells .entry)) (now (low .exit)) (now (lowmem .exit)) (now (high .exit)) (now (highmem .exit)) (now (tags .exit)) (now (cells .exit)) r ⌝ }
+    ensures { λ r.
+        let x = machinesBefore low lowmem high highmem tags tagmem in
+        let y = machinesAfter low lowmem high highmem tags tagmem in
+        ⌜ FormStepped entries (decodeOf word) at x y r ⌝ }
 {
     let w = word as usize;
     let row = row_of(w);
-    straight_row(row, w, room, low, lowmem, high, highmem, tags, cells, at)
+    straight_row(
+        row,
+        w,
+        entries,
+        low,
+        lowmem,
+        high,
+        highmem,
+        tags,
+        tagmem,
+        at,
+    )
 }

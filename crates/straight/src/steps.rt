@@ -3,10 +3,11 @@ use crate::Straight;
 use crate::rows::straight_word;
 use decide::Limits;
 use decide::Used;
-use decide::group::room;
+use decide::group::entries_left;
 use lockstep::Corners;
 use riscu::plain::Memory;
 use riscu::plain::Registers;
+ghost use Rattle.lockstep.specs.Together.{machinesBefore, machinesAfter};
 ghost use Rattle.straight.specs.Stepped.{DecidedStep};
 
 // Takes the next step, where it is straight and its row is one of the usual ones. Which straight steps it leaves is free: nothing has moved then.
@@ -19,10 +20,13 @@ pub fn straight_step(
     high: &mut Registers,
     highmem: &mut Memory,
     tags: &mut Registers,
-    cells: &mut Memory,
+    tagmem: &mut Memory,
     at: Corners,
 ) -> Straight
-    ensures { λ r. ⌜ DecidedStep (now (code .entry)) limits used at (now (low .entry)) (now (lowmem .entry)) (now (high .entry)) (now (highmem .entry)) (now (tags .entry)) (now (cells .entry)) (now (low .exit)) (now (lowmem .exit)) (now (high .exit)) (now (highmem .exit)) (now (tags .exit)) (now (cells .exit)) r ⌝ }
+    ensures { λ r.
+        let x = machinesBefore low lowmem high highmem tags tagmem in
+        let y = machinesAfter low lowmem high highmem tags tagmem in
+        ⌜ DecidedStep (now (code .entry)) limits used at x y r ⌝ }
 {
     if used.steps == limits.steps {
         return Straight::Left;
@@ -37,7 +41,7 @@ pub fn straight_step(
         return Straight::Left;
     }
     let k = (pc / 4) as usize;
-    let entries = room(limits, used);
+    let entries = entries_left(limits, used);
     straight_word(
         code[k],
         entries,
@@ -46,7 +50,7 @@ pub fn straight_step(
         high,
         highmem,
         tags,
-        cells,
+        tagmem,
         at,
     )
 }

@@ -13,7 +13,7 @@ pub struct Number {
 }
 
 // A hex digit's value, or 16.
-pub fn digit(b: u8) -> u64
+fn digit(b: u8) -> u64
     ensures { λ r. ⌜ r ≡ digitOf b ⌝ }
 {
     let n = b as u64;

@@ -4,18 +4,6 @@ use borrow.Author.Needs.{needs}
 use Rattle.serving.proofs.outcome.Statement.{statement}
 use Rattle.serving.proofs.outcome.Tie as tie
 
-enum-known-a : tie.Need-enum-known-a
-enum-known-a c = search needs
-
-job-number-requires : tie.Need-job-number-requires
-job-number-requires c κs = search needs
-
-enum-known-a-2 : tie.Need-enum-known-a-2
-enum-known-a-2 c = search needs
-
-reply-requires : tie.Need-reply-requires
-reply-requires c κs = search needs
-
 returns : tie.Need-returns
 unfolding outcomeOf
 returns c = rw (c .job-number .ensures) (ap outcomeOf (sym (c .before .before .a .given .1)))
@@ -27,4 +15,4 @@ returns-2 c = rw (c .reply .ensures) (ap outcomeOf (sym (c .before .before .a2 .
 pub outcome-spec : {M : Type 1} → statement M
 outcome-spec =
     tie.close
-    (tie.spec enum-known-a job-number-requires enum-known-a-2 reply-requires returns returns-2)
+    (tie.spec (λ c. search needs) (λ c κs. search needs) (λ c. search needs) (λ c κs. search needs) returns returns-2)

@@ -1,62 +1,47 @@
+-- `serving::respond` meets its contract: the text of what the served call leaves.
+-- Assumes nothing.
 use borrow.Author.Needs.{needs}
-use Rattle.serving.proofs.Opened.{listed-fits}
-use Rattle.serving.specs.Response.{responseBy}
+use mathlib.Core.Path.{refl, sym, ap}
 use native.Mathlib.Omega.{arith}
-use mathlib.Core.Path.{refl}
+use Rattle.jobs.proofs.Asked.{yes-sized}
+use Rattle.serving.specs.Response.{responseBy}
+use Rattle.serving.specs.Served.{ServedLeft}
+use Rattle.serving.proofs.JobPassed.{listed-passes, listed-fits}
 use Rattle.serving.proofs.respond.Statement.{statement}
 use Rattle.serving.proofs.respond.Tie as tie
 
-serve-requires : tie.Need-serve-requires
-serve-requires c κs = search needs
-
-enum-known-a : tie.Need-enum-known-a
-enum-known-a c = search needs
-
-job-number-requires : tie.Need-job-number-requires
-job-number-requires c κs = search needs
-
-print-refusal-requires : tie.Need-print-refusal-requires
-print-refusal-requires c κs = search needs
-
-enum-known-a-2 : tie.Need-enum-known-a-2
-enum-known-a-2 c = search needs
+input-count-requires : tie.Need-input-count-requires
+input-count-requires c κs =
+    let e = rw (c .before .a2 .given .1) at (c .before .before .before .before .before .serve .ensures) in
+    yes-sized _ (listed-passes _ _ (ap (λ (l : ServedLeft). l .answer) (sym e))) .whole
 
 print-listing-requires : tie.Need-print-listing-requires
-print-listing-requires c κs = omega (arith, listed-fits _ _ _ (rw (c .before .before .before .a2 .given .1) at (c .before .before .before .before .before .before .before .serve .ensures)), c .before .before .before .before .before .before .before .serve .kept .1 .0)
-
-same-length : tie.Need-same-length
-same-length c = search needs
-
-same-length-2 : tie.Need-same-length-2
-same-length-2 c = search needs
+print-listing-requires c κs =
+    let call = c .before .before .before .before .before .before .before .before .serve in
+    omega (arith, listed-fits _ _ _ (rw (c .before .before .before .before .a2 .given .1) at (call .ensures)), call .kept .1 .0)
 
 returns : tie.Need-returns
 unfolding responseBy
 returns c = rw (← (c .before .before .before .before .before .before .before .before .before .before .serve .ensures), c .before .before .before .before .before .before .a .given .1, ← (c .before .before .before .before .job-number .ensures)) (let e = c .before .before .print-refusal .ensures in (e .0, (e .1, refl)))
 
-same-length-3 : tie.Need-same-length-3
-same-length-3 c = search needs
-
-same-length-4 : tie.Need-same-length-4
-same-length-4 c = search needs
-
 returns-2 : tie.Need-returns-2
 unfolding responseBy
-returns-2 c = rw (← (c .before .before .before .before .before .before .before .before .before .before .serve .ensures), c .before .before .before .before .before .before .a2 .given .1) (let e = c .before .before .print-listing .ensures in (e .0, (e .1, refl)))
+returns-2 c = rw (← (c .before .before .before .before .before .before .before .before .before .before .before .serve .ensures), c .before .before .before .before .before .before .before .a2 .given .1, ← (c .before .before .before .before .before .input-count .ensures)) (let e = c .before .before .print-listing .ensures in (e .0, (e .1, refl)))
 
 pub respond-spec : {M : Type 1} → statement M
 respond-spec =
     tie.close
     (tie.spec
-    serve-requires
-    enum-known-a
-    job-number-requires
-    print-refusal-requires
-    enum-known-a-2
+    (λ c κs. search needs)
+    (λ c. search needs)
+    (λ c κs. search needs)
+    (λ c κs. search needs)
+    (λ c. search needs)
+    input-count-requires
     print-listing-requires
-    same-length
-    same-length-2
+    (λ c. search needs)
+    (λ c. search needs)
     returns
-    same-length-3
-    same-length-4
+    (λ c. search needs)
+    (λ c. search needs)
     returns-2)

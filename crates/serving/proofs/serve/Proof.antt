@@ -1,57 +1,63 @@
-use Rattle.serving.proofs.Opened.{read-refused, read-open, code-few, inputs-few, code-length, intervals-length, memory-length, served-open}
-use lib.ListN.{length-replicate}
-use Prim.Native.Nat.{ℕ}
+use Rattle.serving.proofs.JobPassed.{read-refused, read-passed, code-few, inputs-few, code-length, intervals-length, memory-length, served-open}
+use mathlib.Core.Path.{_≡_}
+use lib.ListN.{length, replicate, length-replicate}
+use Prim.Native.Nat.{ℕ, _*_}
+use Rattle.riscu.specs.Limits.{codeWords}
+use Rattle.blocks.specs.Record.{mostInputs}
 use denote.Ref.{now}
 use native.Mathlib.Omega.{arith}
 use borrow.Author.Needs.{needs}
 use Rattle.serving.proofs.serve.Statement.{statement}
 use Rattle.serving.proofs.serve.Tie as tie
 
-read-job-requires : tie.Need-read-job-requires
-read-job-requires c κs = search needs
+code-size : length (replicate {A = ℕ} codeWords 0) ≡ codeWords
+code-size = length-replicate {A = ℕ} codeWords 0
 
-enum-known-answer : tie.Need-enum-known-answer
-enum-known-answer c = search needs
-
-enum-known-answer-2 : tie.Need-enum-known-answer-2
-enum-known-answer-2 c = search needs
+intervals-size : length (replicate {A = ℕ} (2 * mostInputs) 0) ≡ 2 * mostInputs
+intervals-size = length-replicate {A = ℕ} (2 * mostInputs) 0
 
 slice-aggregate-explore-read : tie.Need-slice-aggregate-explore-read
-slice-aggregate-explore-read c = code-length (now (c .before .before .before .before .before .before .before .before .before .before .args .job)) _ _ _ _ _ _ (read-open (now (c .before .before .before .before .before .before .before .before .before .before .args .job)) _ _ _ _ _ _ (rw (c .before .before .answer2 .given .1) at (c .before .before .before .before .read-job .ensures))) (length-replicate {A = ℕ} 1024 0) (length-replicate {A = ℕ} 16 0)
+slice-aggregate-explore-read c =
+    let p = read-passed (now (c .before .before .before .before .before .before .before .before .before .before .args .job)) _ _ _ _ _ _ (rw (c .before .before .answer2 .given .1) at (c .before .before .before .before .read-job .ensures)) in
+    code-length _ _ _ _ _ _ _ p code-size intervals-size
 
 slice-aggregate-explore-read-2 : tie.Need-slice-aggregate-explore-read-2
-slice-aggregate-explore-read-2 c = intervals-length (now (c .before .before .before .before .before .before .before .before .before .before .before .args .job)) _ _ _ _ _ _ (read-open (now (c .before .before .before .before .before .before .before .before .before .before .before .args .job)) _ _ _ _ _ _ (rw (c .before .before .before .answer2 .given .1) at (c .before .before .before .before .before .read-job .ensures))) (length-replicate {A = ℕ} 1024 0) (length-replicate {A = ℕ} 16 0)
+slice-aggregate-explore-read-2 c =
+    let p = read-passed (now (c .before .before .before .before .before .before .before .before .before .before .before .args .job)) _ _ _ _ _ _ (rw (c .before .before .before .answer2 .given .1) at (c .before .before .before .before .before .read-job .ensures)) in
+    intervals-length _ _ _ _ _ _ _ p code-size intervals-size
 
 slice-aggregate-explore-read-3 : tie.Need-slice-aggregate-explore-read-3
-slice-aggregate-explore-read-3 c = memory-length (now (c .before .before .before .before .before .before .before .before .before .before .before .before .args .job)) _ _ _ _ _ _ (read-open (now (c .before .before .before .before .before .before .before .before .before .before .before .before .args .job)) _ _ _ _ _ _ (rw (c .before .before .before .before .answer2 .given .1) at (c .before .before .before .before .before .before .read-job .ensures))) (length-replicate {A = ℕ} 1024 0) (length-replicate {A = ℕ} 16 0)
+slice-aggregate-explore-read-3 c =
+    let p = read-passed (now (c .before .before .before .before .before .before .before .before .before .before .before .before .args .job)) _ _ _ _ _ _ (rw (c .before .before .before .before .answer2 .given .1) at (c .before .before .before .before .before .before .read-job .ensures)) in
+    memory-length _ _ _ _ _ _ _ p code-size intervals-size
 
 explore-read-requires : tie.Need-explore-read-requires
-explore-read-requires c κs = (omega (arith, code-few (now (c .before .before .before .before .before .before .before .before .before .before .before .before .before .args .job)) _ _ _ _ _ _ (read-open (now (c .before .before .before .before .before .before .before .before .before .before .before .before .before .args .job)) _ _ _ _ _ _ (rw (c .before .before .before .before .before .answer2 .given .1) at (c .before .before .before .before .before .before .before .read-job .ensures))) (length-replicate {A = ℕ} 1024 0) (length-replicate {A = ℕ} 16 0), code-length (now (c .before .before .before .before .before .before .before .before .before .before .before .before .before .args .job)) _ _ _ _ _ _ (read-open (now (c .before .before .before .before .before .before .before .before .before .before .before .before .before .args .job)) _ _ _ _ _ _ (rw (c .before .before .before .before .before .answer2 .given .1) at (c .before .before .before .before .before .before .before .read-job .ensures))) (length-replicate {A = ℕ} 1024 0) (length-replicate {A = ℕ} 16 0)), omega (arith, inputs-few (now (c .before .before .before .before .before .before .before .before .before .before .before .before .before .args .job)) _ _ _ _ _ _ (read-open (now (c .before .before .before .before .before .before .before .before .before .before .before .before .before .args .job)) _ _ _ _ _ _ (rw (c .before .before .before .before .before .answer2 .given .1) at (c .before .before .before .before .before .before .before .read-job .ensures))) (length-replicate {A = ℕ} 1024 0) (length-replicate {A = ℕ} 16 0), intervals-length (now (c .before .before .before .before .before .before .before .before .before .before .before .before .before .args .job)) _ _ _ _ _ _ (read-open (now (c .before .before .before .before .before .before .before .before .before .before .before .before .before .args .job)) _ _ _ _ _ _ (rw (c .before .before .before .before .before .answer2 .given .1) at (c .before .before .before .before .before .before .before .read-job .ensures))) (length-replicate {A = ℕ} 1024 0) (length-replicate {A = ℕ} 16 0)))
-
-served-as-requires : tie.Need-served-as-requires
-served-as-requires c κs = search needs
+explore-read-requires c κs =
+    let p = read-passed (now (c .before .before .before .before .before .before .before .before .before .before .before .before .before .args .job)) _ _ _ _ _ _ (rw (c .before .before .before .before .before .answer2 .given .1) at (c .before .before .before .before .before .before .before .read-job .ensures)) in (
+      omega (arith, code-few _ _ _ _ _ _ _ p code-size intervals-size, code-length _ _ _ _ _ _ _ p code-size intervals-size),
+      omega (arith, inputs-few _ _ _ _ _ _ _ p code-size intervals-size, intervals-length _ _ _ _ _ _ _ p code-size intervals-size),
+    )
 
 returns : tie.Need-returns
 returns c = read-refused (now (c .before .before .before .before .before .before .before .before .before .args .job)) _ _ _ _ _ _ (rw (c .before .answer .given .1) at (c .before .before .before .read-job .ensures)) _
 
-same-length : tie.Need-same-length
-same-length c = search needs
-
 returns-2 : tie.Need-returns-2
-returns-2 c = rw (c .served-as .ensures) (served-open (now (c .before .before .before .before .before .before .before .before .before .before .before .before .before .before .before .before .before .args .job)) _ _ _ _ _ _ (read-open (now (c .before .before .before .before .before .before .before .before .before .before .before .before .before .before .before .before .before .args .job)) _ _ _ _ _ _ (rw (c .before .before .before .before .before .before .before .before .before .answer2 .given .1) at (c .before .before .before .before .before .before .before .before .before .before .before .read-job .ensures))) (length-replicate {A = ℕ} 1024 0) (length-replicate {A = ℕ} 16 0) (c .before .before .before .explore-read .result) _ _ (c .before .before .before .explore-read .ensures))
+returns-2 c =
+    let p = read-passed (now (c .before .before .before .before .before .before .before .before .before .before .before .before .before .before .before .before .before .args .job)) _ _ _ _ _ _ (rw (c .before .before .before .before .before .before .before .before .before .answer2 .given .1) at (c .before .before .before .before .before .before .before .before .before .before .before .read-job .ensures)) in
+    rw (c .served-as .ensures) (served-open _ _ _ _ _ _ _ p code-size intervals-size (c .before .before .before .explore-read .result) _ _ (c .before .before .before .explore-read .ensures))
 
 pub serve-spec : {M : Type 1} → statement M
 serve-spec =
     tie.close
     (tie.spec
-    read-job-requires
-    enum-known-answer
-    enum-known-answer-2
+    (λ c κs. search needs)
+    (λ c. search needs)
+    (λ c. search needs)
     slice-aggregate-explore-read
     slice-aggregate-explore-read-2
     slice-aggregate-explore-read-3
     explore-read-requires
-    served-as-requires
+    (λ c κs. search needs)
     returns
-    same-length
+    (λ c. search needs)
     returns-2)

@@ -4,12 +4,6 @@ use borrow.Author.Needs.{needs}
 use Rattle.serving.proofs.served_as.Statement.{statement}
 use Rattle.serving.proofs.served_as.Tie as tie
 
-enum-known-a : tie.Need-enum-known-a
-enum-known-a c = search needs
-
-enum-known-a-2 : tie.Need-enum-known-a-2
-enum-known-a-2 c = search needs
-
 returns : tie.Need-returns
 unfolding servedAs
 returns c = ap servedAs (sym (c .before .a .given .1))
@@ -19,4 +13,4 @@ unfolding servedAs
 returns-2 c = ap servedAs (sym (c .before .a2 .given .1))
 
 pub served-as-spec : {M : Type 1} → statement M
-served-as-spec = tie.close (tie.spec enum-known-a enum-known-a-2 returns returns-2)
+served-as-spec = tie.close (tie.spec (λ c. search needs) (λ c. search needs) returns returns-2)

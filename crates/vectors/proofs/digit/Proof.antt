@@ -4,12 +4,6 @@ use Rattle.vectors.specs.Text.{digitOf}
 use Rattle.vectors.proofs.digit.Statement.{statement}
 use Rattle.vectors.proofs.digit.Tie as tie
 
-sub-result : tie.Need-sub-result
-sub-result c = search needs
-
-sub-result-2 : tie.Need-sub-result-2
-sub-result-2 c = search needs
-
 returns : tie.Need-returns
 unfolding digitOf
 returns c = simp (lt-ltb _ _ (c .if1 .taken))
@@ -32,4 +26,4 @@ returns-5 c = simp (le-ltb _ _ (c .before .before .before .if1 .left), le-ltb _ 
 
 pub digit-spec : {M : Type 1} → statement M
 digit-spec =
-    tie.close (tie.spec sub-result sub-result-2 returns returns-2 returns-3 returns-4 returns-5)
+    tie.close (tie.spec (λ c. search needs) (λ c. search needs) returns returns-2 returns-3 returns-4 returns-5)

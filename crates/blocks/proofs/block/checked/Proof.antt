@@ -8,19 +8,10 @@ use Rattle.blocks.proofs.Bytes.{word-from}
 use Rattle.blocks.proofs.block.checked.Statement.{statement}
 use Rattle.blocks.proofs.block.checked.Tie as tie
 
-check-of-requires : tie.Need-check-of-requires
-check-of-requires c κs = search needs
-
-add-word-at : tie.Need-add-word-at
-add-word-at c = search needs
-
-word-at-requires : tie.Need-word-at-requires
-word-at-requires c κs = search needs
-
 returns : tie.Need-returns
 returns c =
     let a = c .before .before .before .args in
     rw (c .before .check-of .ensures, c .word-at .ensures ∙ word-from (now (a .bytes)) (a .at) payloadWords)
 
 pub checked-spec : {M : Type 1} → statement M
-checked-spec = tie.close (tie.spec check-of-requires add-word-at word-at-requires returns)
+checked-spec = tie.close (tie.spec (λ c κs. search needs) (λ c. search needs) (λ c κs. search needs) returns)

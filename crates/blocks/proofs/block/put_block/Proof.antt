@@ -26,30 +26,6 @@ loop-holds : tie.Need-loop-holds Inv-loop μ-loop
 unfolding flatMap
 loop-holds c = (zero-le, refl, sym (put-none _ _), refl)
 
-word-or-zero-requires : tie.Need-word-or-zero-requires Inv-loop μ-loop
-word-or-zero-requires c κs = search needs
-
-mul-put-word : tie.Need-mul-put-word Inv-loop μ-loop
-mul-put-word c = omega arith
-
-add-put-word : tie.Need-add-put-word Inv-loop μ-loop
-add-put-word c = omega arith
-
-put-word-requires : tie.Need-put-word-requires Inv-loop μ-loop
-put-word-requires c κs = omega arith
-
-turned-requires : tie.Need-turned-requires Inv-loop μ-loop
-turned-requires c κs = search needs
-
-wrapping-add-u64-requires : tie.Need-wrapping-add-u64-requires Inv-loop μ-loop
-wrapping-add-u64-requires c κs = search needs
-
-add-k : tie.Need-add-k Inv-loop μ-loop
-add-k c = omega arith
-
-loop-less : tie.Need-loop-less Inv-loop μ-loop
-loop-less c = omega arith
-
 loop-again : tie.Need-loop-again Inv-loop μ-loop
 loop-again c =
     let first = c .before .before .before .before .before .before .before .before .before .before .before in
@@ -63,12 +39,6 @@ loop-again c =
       check-turn ws (first .pre .1) (l .k) (w .result) (omega arith) (w .ensures) (l .s) (c .before .turned .result) (c .before .turned .ensures) (c .wrapping-add-u64 .ensures) ∙ l .inv .3,
     )
 
-add-put-word-2 : tie.Need-add-put-word-2 Inv-loop μ-loop
-add-put-word-2 c = omega arith
-
-put-word-requires-2 : tie.Need-put-word-requires-2 Inv-loop μ-loop
-put-word-requires-2 c κs = omega arith
-
 same-length : tie.Need-same-length Inv-loop μ-loop
 same-length c = c .before .before .put-word2 .kept .0 ∙ c .before .before .before .before .before .loop .inv .1
 
@@ -80,4 +50,4 @@ returns c =
     ∙ rw (l .inv .2) (block-done (now (first .args .bytes)) (first .args .at) (now (first .args .words)) (l .k) (l .s) (first .pre .1) (first .pre .0) (omega arith) (l .inv .3))
 
 pub put-block-spec : {M : Type 1} → statement M
-put-block-spec = tie.close (tie.spec Inv-loop μ-loop loop-holds word-or-zero-requires mul-put-word add-put-word put-word-requires turned-requires wrapping-add-u64-requires add-k loop-less loop-again add-put-word-2 put-word-requires-2 same-length returns)
+put-block-spec = tie.close (tie.spec Inv-loop μ-loop loop-holds (λ c κs. search needs) (λ c. omega arith) (λ c. omega arith) (λ c κs. omega arith) (λ c κs. search needs) (λ c κs. search needs) (λ c. omega arith) (λ c. omega arith) loop-again (λ c. omega arith) (λ c κs. omega arith) same-length returns)

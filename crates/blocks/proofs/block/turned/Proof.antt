@@ -6,14 +6,8 @@ use Rattle.blocks.proofs.Check.{parts-fit, top-bit}
 use Rattle.blocks.proofs.block.turned.Statement.{statement}
 use Rattle.blocks.proofs.block.turned.Tie as tie
 
-mul-result : tie.Need-mul-result
-mul-result c = search needs
-
 add-result : tie.Need-add-result
 add-result c = record { fits = parts-fit _ _ (omega arith) (top-bit (c .args .s) (search needs)) }
 
-returns : tie.Need-returns
-returns c = search needs
-
 pub turned-spec : {M : Type 1} → statement M
-turned-spec = tie.close (tie.spec mul-result add-result returns)
+turned-spec = tie.close (tie.spec (λ c. search needs) add-result (λ c. search needs))

@@ -12,30 +12,6 @@ use borrow.Author.Needs.{needs}
 use Rattle.blocks.proofs.record.put_path.Statement.{statement}
 use Rattle.blocks.proofs.record.put_path.Tie as tie
 
-first-words-requires : tie.Need-first-words-requires
-first-words-requires c κs = search needs
-
-slice-aggregate-put-block : tie.Need-slice-aggregate-put-block
-slice-aggregate-put-block c = search needs
-
-put-block-requires : tie.Need-put-block-requires
-put-block-requires c κs = search needs
-
-second-words-requires : tie.Need-second-words-requires
-second-words-requires c κs = search needs
-
-add-put-block : tie.Need-add-put-block
-add-put-block c = search needs
-
-slice-aggregate-put-block-2 : tie.Need-slice-aggregate-put-block-2
-slice-aggregate-put-block-2 c = search needs
-
-put-block-requires-2 : tie.Need-put-block-requires-2
-put-block-requires-2 c κs = search needs
-
-same-length : tie.Need-same-length
-same-length c = search needs
-
 returns : tie.Need-returns
 returns c =
     let start = c .before .before .before .before .before .before .before .before .before .before .before .before .before .before .before in
@@ -53,12 +29,12 @@ pub put-path-spec : {M : Type 1} → statement M
 put-path-spec =
     tie.close
     (tie.spec
-    first-words-requires
-    slice-aggregate-put-block
-    put-block-requires
-    second-words-requires
-    add-put-block
-    slice-aggregate-put-block-2
-    put-block-requires-2
-    same-length
+    (λ c κs. search needs)
+    (λ c. search needs)
+    (λ c κs. search needs)
+    (λ c κs. search needs)
+    (λ c. search needs)
+    (λ c. search needs)
+    (λ c κs. search needs)
+    (λ c. search needs)
     returns)

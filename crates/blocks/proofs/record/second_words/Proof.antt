@@ -21,56 +21,8 @@ Inv-loop number lows highs l h words₀ r₀ words r =
 abbrev μ-loop : tie.MeasureT-loop
 μ-loop number lows highs l h words₀ r₀ words r = 32 - r
 
-whole-requires : tie.Need-whole-requires Inv-loop μ-loop
-whole-requires c κs = search needs
-
-whole-requires-2 : tie.Need-whole-requires-2 Inv-loop μ-loop
-whole-requires-2 c κs = search needs
-
-array-write-words : tie.Need-array-write-words Inv-loop μ-loop
-array-write-words c = omega arith
-
 loop-holds : tie.Need-loop-holds Inv-loop μ-loop
 loop-holds c = (omega arith, omega arith, search needs, refl)
-
-mul-words : tie.Need-mul-words Inv-loop μ-loop
-mul-words c = omega arith
-
-array-read-words : tie.Need-array-read-words Inv-loop μ-loop
-array-read-words c = omega arith
-
-mul-words-2 : tie.Need-mul-words-2 Inv-loop μ-loop
-mul-words-2 c = omega arith
-
-sub-words : tie.Need-sub-words Inv-loop μ-loop
-sub-words c = omega arith
-
-mul-words-3 : tie.Need-mul-words-3 Inv-loop μ-loop
-mul-words-3 c = omega arith
-
-array-write-words-2 : tie.Need-array-write-words-2 Inv-loop μ-loop
-array-write-words-2 c = omega arith
-
-mul-words-4 : tie.Need-mul-words-4 Inv-loop μ-loop
-mul-words-4 c = omega arith
-
-array-read-words-2 : tie.Need-array-read-words-2 Inv-loop μ-loop
-array-read-words-2 c = omega arith
-
-mul-words-5 : tie.Need-mul-words-5 Inv-loop μ-loop
-mul-words-5 c = omega arith
-
-mul-words-6 : tie.Need-mul-words-6 Inv-loop μ-loop
-mul-words-6 c = omega arith
-
-array-write-words-3 : tie.Need-array-write-words-3 Inv-loop μ-loop
-array-write-words-3 c = omega arith
-
-add-r : tie.Need-add-r Inv-loop μ-loop
-add-r c = omega arith
-
-loop-less : tie.Need-loop-less Inv-loop μ-loop
-loop-less c = omega arith
 
 loop-again : tie.Need-loop-again Inv-loop μ-loop
 loop-again c =
@@ -95,4 +47,4 @@ returns c =
     ∙ ap (λ (x : List ℕ). n ∷ ends (drop 1 (boxIn (now (c .before .before .before .before .args .lows)) x))) (hs .ensures)
 
 pub second-words-spec : {M : Type 1} → statement M
-second-words-spec = tie.close (tie.spec Inv-loop μ-loop whole-requires whole-requires-2 array-write-words loop-holds mul-words array-read-words mul-words-2 sub-words mul-words-3 array-write-words-2 mul-words-4 array-read-words-2 mul-words-5 mul-words-6 array-write-words-3 add-r loop-less loop-again returns)
+second-words-spec = tie.close (tie.spec Inv-loop μ-loop (λ c κs. search needs) (λ c κs. search needs) (λ c. omega arith) loop-holds (λ c. omega arith) (λ c. omega arith) (λ c. omega arith) (λ c. omega arith) (λ c. omega arith) (λ c. omega arith) (λ c. omega arith) (λ c. omega arith) (λ c. omega arith) (λ c. omega arith) (λ c. omega arith) (λ c. omega arith) (λ c. omega arith) loop-again returns)

@@ -7,7 +7,7 @@ use denote.Ref.{now}
 use mathlib.Core.List.{List}
 use lib.ListN.{length, getD, take, drop}
 use Rattle.blocks.specs.Block.{wordBytes, numberOf}
-use Rattle.blocks.proofs.Bytes.{number-more, room-more, room-seven}
+use Rattle.blocks.proofs.Bytes.{number-more, below-more, below-seven}
 use Rattle.blocks.proofs.words.word_at.Statement.{statement}
 use Rattle.blocks.proofs.words.word_at.Tie as tie
 
@@ -24,7 +24,7 @@ byte-before : (bs : List ℕ) (at k w : ℕ) → 0 < k → k ≤ wordBytes → a
 byte-before bs at k w h q fits hb hw e =
     let more : wordBytes - (k - 1) ≡ suc (wordBytes - k) = omega arith in
     let next : suc (at + (k - 1)) ≡ at + k = omega arith in
-    (omega arith, rw more (room-more (wordBytes - k) (getD bs (at + (k - 1)) 0) w hb hw), rw (more, number-more bs (at + (k - 1)) (wordBytes - k) (omega arith), next, e))
+    (omega arith, rw more (below-more (wordBytes - k) (getD bs (at + (k - 1)) 0) w hb hw), rw (more, number-more bs (at + (k - 1)) (wordBytes - k) (omega arith), next, e))
 
 ends : (bs : List ℕ) (at k : ℕ) {w : ℕ} → k ≤ 0 → w ≡ numberOf (take (wordBytes - k) (drop (at + k) bs)) → w ≡ numberOf (take wordBytes (drop at bs))
 ends bs at k h e = let z : k ≡ 0 = omega arith in let p : at + k ≡ at = omega arith in e ∙ rw (p, z)
@@ -33,30 +33,18 @@ loop-holds : tie.Need-loop-holds Inv-loop μ-loop
 unfolding numberOf
 loop-holds c = (omega arith, omega arith, refl)
 
-sub-k : tie.Need-sub-k Inv-loop μ-loop
-sub-k c = omega arith
-
-add-w : tie.Need-add-w Inv-loop μ-loop
-add-w c = omega arith
-
-shared-slice-read-w : tie.Need-shared-slice-read-w Inv-loop μ-loop
-shared-slice-read-w c = omega arith
-
 cast-w : tie.Need-cast-w Inv-loop μ-loop
 cast-w c = omega (arith, c .shared-slice-known .given (c .before .before .before .args .at + (c .before .before .loop .k - 1)))
 
 mul-w : tie.Need-mul-w Inv-loop μ-loop
 mul-w c =
     let l = c .before .before .loop in
-    omega (arith, room-seven (wordBytes - l .k) (l .w) (omega arith) (l .inv .1))
+    omega (arith, below-seven (wordBytes - l .k) (l .w) (omega arith) (l .inv .1))
 
 add-w-2 : tie.Need-add-w-2 Inv-loop μ-loop
 add-w-2 c =
     let l = c .before .before .loop in
-    omega (arith, room-seven (wordBytes - l .k) (l .w) (omega arith) (l .inv .1), c .shared-slice-known .given (c .before .before .before .args .at + (l .k - 1)))
-
-loop-less : tie.Need-loop-less Inv-loop μ-loop
-loop-less c = omega arith
+    omega (arith, below-seven (wordBytes - l .k) (l .w) (omega arith) (l .inv .1), c .shared-slice-known .given (c .before .before .before .args .at + (l .k - 1)))
 
 loop-again : tie.Need-loop-again Inv-loop μ-loop
 loop-again c =
@@ -70,4 +58,4 @@ returns : tie.Need-returns Inv-loop μ-loop
 returns c = ends (now (c .before .before .args .bytes)) (c .before .before .args .at) (c .before .loop .k) (omega arith) (c .before .loop .inv .2)
 
 pub word-at-spec : {M : Type 1} → statement M
-word-at-spec = tie.close (tie.spec Inv-loop μ-loop loop-holds sub-k add-w shared-slice-read-w cast-w mul-w add-w-2 loop-less loop-again returns)
+word-at-spec = tie.close (tie.spec Inv-loop μ-loop loop-holds (λ c. omega arith) (λ c. omega arith) (λ c. omega arith) cast-w mul-w add-w-2 (λ c. omega arith) loop-again returns)

@@ -8,71 +8,23 @@ use borrow.Author.Needs.{needs}
 use Rattle.cuts.proofs.entries.push.Statement.{statement}
 use Rattle.cuts.proofs.entries.push.Tie as tie
 
-mul-k : tie.Need-mul-k
-mul-k c = search needs
-
-mul-table : tie.Need-mul-table
-mul-table c = search needs
-
-slice-write-table : tie.Need-slice-write-table
-slice-write-table c = search needs
-
-add-table : tie.Need-add-table
-add-table c = search needs
-
-mul-table-2 : tie.Need-mul-table-2
-mul-table-2 c = search needs
-
 slice-write-table-2 : tie.Need-slice-write-table-2
 slice-write-table-2 c = simp length-set (omega arith)
-
-add-table-2 : tie.Need-add-table-2
-add-table-2 c = search needs
-
-mul-table-3 : tie.Need-mul-table-3
-mul-table-3 c = search needs
 
 slice-write-table-3 : tie.Need-slice-write-table-3
 slice-write-table-3 c = simp length-set (omega arith)
 
-add-table-3 : tie.Need-add-table-3
-add-table-3 c = search needs
-
-mul-table-4 : tie.Need-mul-table-4
-mul-table-4 c = search needs
-
 slice-write-table-4 : tie.Need-slice-write-table-4
 slice-write-table-4 c = simp length-set (omega arith)
-
-add-table-4 : tie.Need-add-table-4
-add-table-4 c = search needs
-
-mul-table-5 : tie.Need-mul-table-5
-mul-table-5 c = search needs
 
 slice-write-table-5 : tie.Need-slice-write-table-5
 slice-write-table-5 c = simp length-set (omega arith)
 
-add-table-5 : tie.Need-add-table-5
-add-table-5 c = search needs
-
-mul-table-6 : tie.Need-mul-table-6
-mul-table-6 c = search needs
-
 slice-write-table-6 : tie.Need-slice-write-table-6
 slice-write-table-6 c = simp length-set (omega arith)
 
-add-table-6 : tie.Need-add-table-6
-add-table-6 c = search needs
-
-mul-table-7 : tie.Need-mul-table-7
-mul-table-7 c = search needs
-
 slice-write-table-7 : tie.Need-slice-write-table-7
 slice-write-table-7 c = simp length-set (omega arith)
-
-same-length : tie.Need-same-length
-same-length c = search needs
 
 returns : tie.Need-returns
 returns c = simp unary-clauses (forks-push (now (c .args .table)) (c .args .n) (forkOf (c .args .input) (c .args .low) (c .args .high) (c .args .rest) (c .args .steps) (c .args .used)) (omega arith))
@@ -81,26 +33,26 @@ pub push-spec : {M : Type 1} → statement M
 push-spec =
     tie.close
     (tie.spec
-    mul-k
-    mul-table
-    slice-write-table
-    add-table
-    mul-table-2
+    (λ c. search needs)
+    (λ c. search needs)
+    (λ c. search needs)
+    (λ c. search needs)
+    (λ c. search needs)
     slice-write-table-2
-    add-table-2
-    mul-table-3
+    (λ c. search needs)
+    (λ c. search needs)
     slice-write-table-3
-    add-table-3
-    mul-table-4
+    (λ c. search needs)
+    (λ c. search needs)
     slice-write-table-4
-    add-table-4
-    mul-table-5
+    (λ c. search needs)
+    (λ c. search needs)
     slice-write-table-5
-    add-table-5
-    mul-table-6
+    (λ c. search needs)
+    (λ c. search needs)
     slice-write-table-6
-    add-table-6
-    mul-table-7
+    (λ c. search needs)
+    (λ c. search needs)
     slice-write-table-7
-    same-length
+    (λ c. search needs)
     returns)

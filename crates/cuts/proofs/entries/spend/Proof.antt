@@ -5,23 +5,8 @@ use borrow.Author.Needs.{needs}
 use Rattle.cuts.proofs.entries.spend.Statement.{statement}
 use Rattle.cuts.proofs.entries.spend.Tie as tie
 
-mul-k : tie.Need-mul-k
-mul-k c = search needs
-
-add-k : tie.Need-add-k
-add-k c = search needs
-
-mul-table : tie.Need-mul-table
-mul-table c = search needs
-
-slice-write-table : tie.Need-slice-write-table
-slice-write-table c = search needs
-
-same-length : tie.Need-same-length
-same-length c = search needs
-
 returns : tie.Need-returns
 returns c = forks-spend (now (c .args .table)) (c .args .n) (omega arith)
 
 pub spend-spec : {M : Type 1} → statement M
-spend-spec = tie.close (tie.spec mul-k add-k mul-table slice-write-table same-length returns)
+spend-spec = tie.close (tie.spec (λ c. search needs) (λ c. search needs) (λ c. search needs) (λ c. search needs) (λ c. search needs) returns)

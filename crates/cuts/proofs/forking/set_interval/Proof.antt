@@ -5,24 +5,6 @@ use borrow.Author.Needs.{needs}
 use Rattle.cuts.proofs.forking.set_interval.Statement.{statement}
 use Rattle.cuts.proofs.forking.set_interval.Tie as tie
 
-mul-lows : tie.Need-mul-lows
-mul-lows c = search needs
-
-slice-write-lows : tie.Need-slice-write-lows
-slice-write-lows c = search needs
-
-mul-highs : tie.Need-mul-highs
-mul-highs c = search needs
-
-slice-write-highs : tie.Need-slice-write-highs
-slice-write-highs c = search needs
-
-same-length : tie.Need-same-length
-same-length c = search needs
-
-same-length-2 : tie.Need-same-length-2
-same-length-2 c = search needs
-
 returns : tie.Need-returns
 returns c =
     let a = c .args in
@@ -32,10 +14,10 @@ pub set-interval-spec : {M : Type 1} → statement M
 set-interval-spec =
     tie.close
     (tie.spec
-    mul-lows
-    slice-write-lows
-    mul-highs
-    slice-write-highs
-    same-length
-    same-length-2
+    (λ c. search needs)
+    (λ c. search needs)
+    (λ c. search needs)
+    (λ c. search needs)
+    (λ c. search needs)
+    (λ c. search needs)
     returns)

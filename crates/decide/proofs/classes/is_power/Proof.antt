@@ -1,18 +1,9 @@
-use Rattle.decide.proofs.Matches.{by-case}
+use Rattle.listing.proofs.Matches.{by-case}
 use Rattle.listing.specs.Ending.{anyPower}
 use mathlib.Core.Path.{refl, sym, _∙_}
 use borrow.Author.Needs.{needs}
 use Rattle.decide.proofs.classes.is_power.Statement.{statement}
 use Rattle.decide.proofs.classes.is_power.Tie as tie
-
-power-of-requires : tie.Need-power-of-requires
-power-of-requires c κs = search needs
-
-enum-told : tie.Need-enum-told
-enum-told c = search needs
-
-enum-told-2 : tie.Need-enum-told-2
-enum-told-2 c = search needs
 
 returns : tie.Need-returns
 unfolding anyPower
@@ -23,4 +14,4 @@ unfolding anyPower
 returns-2 c = by-case anyPower (sym (c .before .before .power-of .ensures) ∙ c .enum-told2 .given .1) refl
 
 pub is-power-spec : {M : Type 1} → statement M
-is-power-spec = tie.close (tie.spec power-of-requires enum-told enum-told-2 returns returns-2)
+is-power-spec = tie.close (tie.spec (λ c κs. search needs) (λ c. search needs) (λ c. search needs) returns returns-2)

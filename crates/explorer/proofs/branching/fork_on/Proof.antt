@@ -1,83 +1,122 @@
-use Rattle.explorer.proofs.Straight.{written-is}
-use Rattle.explorer.proofs.Forking.{tag-inside, starts-at, fork-room, fork-done}
-use mathlib.Core.Path.{refl}
+use Rattle.explorer.proofs.Forking.{tag-inside, fork-partable, fork-entry, fork-used, fork-steps, fork-done}
 use native.Mathlib.Omega.{arith}
 use borrow.Author.Needs.{needs}
 use Rattle.explorer.proofs.branching.fork_on.Statement.{statement}
 use Rattle.explorer.proofs.branching.fork_on.Tie as tie
 
-writes-requires : tie.Need-writes-requires
-writes-requires c κs = search needs
-
 add-steps : tie.Need-add-steps
-add-steps c = omega (arith, fork-room (c .before .before .before .before .before .before .before .before .before .before .pre .0) (c .before .before .before .before .before .before .before .before .before .before .pre .1 .0) (c .before .before .before .before .before .before .before .before .before .before .args .i) (c .before .before .before .before .before .before .before .before .before .before .pre .1 .2) .2)
+add-steps c =
+    omega (arith, fork-steps (c .before .before .before .before .before .before .before .before .before .before .pre))
 
 add-used : tie.Need-add-used
-add-used c = omega (arith, fork-room (c .before .before .before .before .before .before .before .before .before .before .pre .0) (c .before .before .before .before .before .before .before .before .before .before .pre .1 .0) (c .before .before .before .before .before .before .before .before .before .before .args .i) (c .before .before .before .before .before .before .before .before .before .before .pre .1 .2) .1, written-is (c .before .before .before .before .before .before .before .before .before .before .pre .0) (c .before .before .before .before .before .before .before .before .before .before .pre .1 .0) (c .before .before .before .before .before .before .before .before .before .before .args .i), c .before .writes .ensures, c .before .before .before .before .before .before .before .before .before .before .good .1 .1 .1 .1 .1 .1 .0 .0)
+add-used c =
+    let h = c .before .before .before .before .before .before .before .before .before .before in
+    omega (arith, fork-used (h .pre), c .before .writes .ensures, h .good .1 .1 .1 .1 .1 .1 .0 .0)
 
 add-used-2 : tie.Need-add-used-2
-add-used-2 c = omega (arith, fork-room (c .before .before .before .before .before .before .before .before .before .before .before .pre .0) (c .before .before .before .before .before .before .before .before .before .before .before .pre .1 .0) (c .before .before .before .before .before .before .before .before .before .before .before .args .i) (c .before .before .before .before .before .before .before .before .before .before .before .pre .1 .2) .1, written-is (c .before .before .before .before .before .before .before .before .before .before .before .pre .0) (c .before .before .before .before .before .before .before .before .before .before .before .pre .1 .0) (c .before .before .before .before .before .before .before .before .before .before .before .args .i), c .before .before .writes .ensures, c .before .before .before .before .before .before .before .before .before .before .before .good .1 .1 .1 .1 .1 .1 .0 .0)
+add-used-2 c =
+    let at-writes = c .before .before in
+    let entry = at-writes .before .before .before .before .before .before .before .before .before in
+    let h = entry in
+    omega (arith, fork-used (h .pre), at-writes .writes .ensures, h .good .1 .1 .1 .1 .1 .1 .0 .0)
 
 add-forks : tie.Need-add-forks
-add-forks c = omega (arith, fork-room (c .before .before .before .before .before .before .before .before .before .before .before .before .pre .0) (c .before .before .before .before .before .before .before .before .before .before .before .before .pre .1 .0) (c .before .before .before .before .before .before .before .before .before .before .before .before .args .i) (c .before .before .before .before .before .before .before .before .before .before .before .before .pre .1 .2) .0, c .before .before .before .before .before .before .before .before .before .before .before .before .good .1 .1 .1 .1 .1 .1 .0 .0)
-
-class-tag-requires : tie.Need-class-tag-requires
-class-tag-requires c κs = search needs
-
-class-of-requires : tie.Need-class-of-requires
-class-of-requires c κs = search needs
+add-forks c =
+    let h = c .before .before .before .before .before .before .before .before .before .before .before .before in
+    omega (arith, fork-entry (h .pre), h .good .1 .1 .1 .1 .1 .1 .0 .0)
 
 mul-lo : tie.Need-mul-lo
-mul-lo c = omega (arith, c .before .before .before .before .before .before .before .before .before .before .before .before .before .before .before .before .before .before .good .1 .1 .1 .1 .0 .1, tag-inside (c .before .before .before .before .before .before .before .before .before .before .before .before .before .before .before .before .before .before .pre .0) (c .before .before .before .before .before .before .before .before .before .before .before .before .before .before .before .before .before .before .pre .1 .0) (c .before .before .before .before .before .before .before .before .before .before .before .before .before .before .before .before .before .before .args .i) (c .before .before .before .before .before .before .before .before .before .before .before .before .before .before .before .before .before .before .pre .1 .2) (c .before .before .class-tag .result) (c .before .before .class-tag .ensures))
+mul-lo c =
+    let at-class-tag = c .before .before in
+    let entry = at-class-tag .before .before .before .before .before .before .before .before .before .before .before .before .before .before .before .before in
+    let h = entry in
+    let t = at-class-tag .class-tag in
+    omega (arith, h .good .1 .1 .1 .1 .0 .1, tag-inside (h .pre) (t .result) (t .ensures))
 
 slice-read-lo : tie.Need-slice-read-lo
-slice-read-lo c = tag-inside (c .before .before .before .before .before .before .before .before .before .before .before .before .before .before .before .before .before .before .before .pre .0) (c .before .before .before .before .before .before .before .before .before .before .before .before .before .before .before .before .before .before .before .pre .1 .0) (c .before .before .before .before .before .before .before .before .before .before .before .before .before .before .before .before .before .before .before .args .i) (c .before .before .before .before .before .before .before .before .before .before .before .before .before .before .before .before .before .before .before .pre .1 .2) (c .before .before .before .class-tag .result) (c .before .before .before .class-tag .ensures)
+slice-read-lo c =
+    let at-class-tag = c .before .before .before in
+    let entry = at-class-tag .before .before .before .before .before .before .before .before .before .before .before .before .before .before .before .before in
+    let t = at-class-tag .class-tag in
+    tag-inside (entry .pre) (t .result) (t .ensures)
 
 mul-hi : tie.Need-mul-hi
-mul-hi c = omega (arith, c .before .before .before .before .before .before .before .before .before .before .before .before .before .before .before .before .before .before .before .good .1 .1 .1 .1 .0 .1, tag-inside (c .before .before .before .before .before .before .before .before .before .before .before .before .before .before .before .before .before .before .before .pre .0) (c .before .before .before .before .before .before .before .before .before .before .before .before .before .before .before .before .before .before .before .pre .1 .0) (c .before .before .before .before .before .before .before .before .before .before .before .before .before .before .before .before .before .before .before .args .i) (c .before .before .before .before .before .before .before .before .before .before .before .before .before .before .before .before .before .before .before .pre .1 .2) (c .before .before .before .class-tag .result) (c .before .before .before .class-tag .ensures))
+mul-hi c =
+    let at-class-tag = c .before .before .before in
+    let entry = at-class-tag .before .before .before .before .before .before .before .before .before .before .before .before .before .before .before .before in
+    let h = entry in
+    let t = at-class-tag .class-tag in
+    omega (arith, h .good .1 .1 .1 .1 .0 .1, tag-inside (h .pre) (t .result) (t .ensures))
 
 slice-read-hi : tie.Need-slice-read-hi
-slice-read-hi c = omega (arith, c .before .before .before .before .before .before .before .before .before .before .before .before .before .before .before .before .before .before .before .before .pre .0 .paired, tag-inside (c .before .before .before .before .before .before .before .before .before .before .before .before .before .before .before .before .before .before .before .before .pre .0) (c .before .before .before .before .before .before .before .before .before .before .before .before .before .before .before .before .before .before .before .before .pre .1 .0) (c .before .before .before .before .before .before .before .before .before .before .before .before .before .before .before .before .before .before .before .before .args .i) (c .before .before .before .before .before .before .before .before .before .before .before .before .before .before .before .before .before .before .before .before .pre .1 .2) (c .before .before .before .before .class-tag .result) (c .before .before .before .before .class-tag .ensures))
+slice-read-hi c =
+    let at-class-tag = c .before .before .before .before in
+    let entry = at-class-tag .before .before .before .before .before .before .before .before .before .before .before .before .before .before .before .before in
+    let h = entry .pre in
+    let t = at-class-tag .class-tag in
+    omega (arith, h .held .fits .paired, tag-inside h (t .result) (t .ensures))
 
-hint-requires : tie.Need-hint-requires
-hint-requires c κs = search needs
+part-requires : tie.Need-part-requires
+part-requires c κs =
+    let at-class-of = c .before .before .before .before .before .before .before .before .before in
+    let at-class-tag = at-class-of .before .before in
+    let entry = at-class-tag .before .before .before .before .before .before .before .before .before .before .before .before .before .before .before .before in
+    let t = at-class-tag .class-tag in
+    let k = at-class-of .class-of in
+    fork-partable (entry .pre) (t .result) (t .ensures) (k .result) (k .ensures)
 
-split-requires : tie.Need-split-requires
-split-requires c κs = ((c .before .before .before .before .before .before .before .before .before .before .before .before .before .before .before .before .before .before .before .before .before .before .before .before .before .before .before .before .pre .0 .paired, tag-inside (c .before .before .before .before .before .before .before .before .before .before .before .before .before .before .before .before .before .before .before .before .before .before .before .before .before .before .before .before .pre .0) (c .before .before .before .before .before .before .before .before .before .before .before .before .before .before .before .before .before .before .before .before .before .before .before .before .before .before .before .before .pre .1 .0) (c .before .before .before .before .before .before .before .before .before .before .before .before .before .before .before .before .before .before .before .before .before .before .before .before .before .before .before .before .args .i) (c .before .before .before .before .before .before .before .before .before .before .before .before .before .before .before .before .before .before .before .before .before .before .before .before .before .before .before .before .pre .1 .2) (c .before .before .before .before .before .before .before .before .before .before .before .before .class-tag .result) (c .before .before .before .before .before .before .before .before .before .before .before .before .class-tag .ensures), fork-room (c .before .before .before .before .before .before .before .before .before .before .before .before .before .before .before .before .before .before .before .before .before .before .before .before .before .before .before .before .pre .0) (c .before .before .before .before .before .before .before .before .before .before .before .before .before .before .before .before .before .before .before .before .before .before .before .before .before .before .before .before .pre .1 .0) (c .before .before .before .before .before .before .before .before .before .before .before .before .before .before .before .before .before .before .before .before .before .before .before .before .before .before .before .before .args .i) (c .before .before .before .before .before .before .before .before .before .before .before .before .before .before .before .before .before .before .before .before .before .before .before .before .before .before .before .before .pre .1 .2) .0), starts-at (c .before .before .before .before .before .before .before .before .before .before .before .before .before .before .before .before .before .before .before .before .before .before .before .before .before .before .before .before .pre .0) (c .before .before .before .before .before .before .before .before .before .before .before .before .before .before .before .before .before .before .before .before .before .before .before .before .before .before .before .before .pre .1 .0) (c .before .before .before .before .before .before .before .before .before .before .before .before .before .before .before .before .before .before .before .before .before .before .before .before .before .before .before .before .args .i) (c .before .before .before .before .before .before .before .before .before .before .before .before .before .before .before .before .before .before .before .before .before .before .before .before .before .before .before .before .pre .1 .2) (c .before .before .before .before .before .before .before .before .before .before .before .before .class-tag .result) (c .before .before .before .before .before .before .before .before .before .before .before .before .class-tag .ensures) (c .before .before .before .before .before .before .before .before .before .before .class-of .result) (c .before .before .before .before .before .before .before .before .before .before .class-of .ensures))
-
-replay-requires : tie.Need-replay-requires
-replay-requires c κs = search needs
+note-requires : tie.Need-note-requires
+note-requires c κs =
+    let at-part = c .before .before .before .before .before in
+    let entry = at-part .before .before .before .before .before .before .before .before .before .before .before .before .before .before .before .before .before .before .before .before .before .before .before .before .before .before .before .before in
+    (fork-entry (entry .pre), at-part .part .ensures .edge .below-hi)
 
 same-length : tie.Need-same-length
-same-length c = c .before .before .before .before .before .before .before .before .before .before .before .before .before .before .before .split .kept .1 .1 .1 .1 .0
+same-length c =
+    c .before .before .before .before .before .before .before .before .before .before .before .before .before .before .before .before .before .part .kept .1 .1 .1 .1 .0
 
 same-length-2 : tie.Need-same-length-2
-same-length-2 c = c .before .before .before .before .before .before .before .before .before .before .before .before .before .before .before .split .kept .1 .1 .1 .1 .1 .0
+same-length-2 c =
+    c .before .before .before .before .before .before .before .before .before .before .before .before .before .before .before .before .before .part .kept .1 .1 .1 .1 .1 .0
 
 same-length-3 : tie.Need-same-length-3
-same-length-3 c = c .before .before .before .before .before .before .before .before .before .before .before .before .before .before .before .split .kept .1 .1 .1 .1 .1 .1 .0
+same-length-3 c = c .before .before .before .before .before .before .before .before .before .before .before .note .kept .0
 
 returns : tie.Need-returns
-returns c = rw (c .before .before .before .before .before .before .before .before .before .before .before .before .before .before .before .before .before .before .before .before .before .before .before .before .before .before .before .before .before .before .before .before .before .before .before .writes .ensures) (let d = fork-done (c .before .before .before .before .before .before .before .before .before .before .before .before .before .before .before .before .before .before .before .before .before .before .before .before .before .before .before .before .before .before .before .before .before .before .before .before .before .before .before .before .before .before .before .before .pre .0) (c .before .before .before .before .before .before .before .before .before .before .before .before .before .before .before .before .before .before .before .before .before .before .before .before .before .before .before .before .before .before .before .before .before .before .before .before .before .before .before .before .before .before .before .before .pre .1 .0) (c .before .before .before .before .before .before .before .before .before .before .before .before .before .before .before .before .before .before .before .before .before .before .before .before .before .before .before .before .before .before .before .before .before .before .before .before .before .before .before .before .before .before .before .before .args .i) (c .before .before .before .before .before .before .before .before .before .before .before .before .before .before .before .before .before .before .before .before .before .before .before .before .before .before .before .before .before .before .before .before .before .before .before .before .before .before .before .before .before .before .before .before .pre .1 .2) (c .before .before .before .before .before .before .before .before .before .before .before .before .before .before .before .before .before .before .before .before .before .before .before .before .before .before .before .before .class-tag .result) (c .before .before .before .before .before .before .before .before .before .before .before .before .before .before .before .before .before .before .before .before .before .before .before .before .before .before .before .before .class-tag .ensures) (c .before .before .before .before .before .before .before .before .before .before .before .before .before .before .before .before .before .before .before .before .before .before .before .before .before .before .class-of .result) (c .before .before .before .before .before .before .before .before .before .before .before .before .before .before .before .before .before .before .before .before .before .before .before .before .before .before .class-of .ensures) _ _ _ (c .before .before .before .before .before .before .before .before .before .before .before .before .before .before .before .split .result) (c .before .before .before .before .before .before .before .before .before .before .before .before .before .before .before .split .ensures .0) (c .before .before .before .before .before .before .before .before .before .before .before .before .before .before .before .split .ensures .1) (c .before .before .before .before .before .before .before .before .before .before .before .before .before .before .before .split .kept .1 .1 .1 .1 .1 .1 .0) (c .before .before .before .before .before .before .before .before .before .before .before .before .before .before .before .before .before .before .before .before .before .before .before .before .before .before .before .before .before .before .before .before .before .before .before .before .before .before .before .before .before .before .before .before .pre .1 .1) _ _ _ _ _ _ (c .replay .result) (c .replay .ensures) in (d .0, (refl, refl, d .1)))
+returns c =
+    let at-note = c .before .before .before .before .before .before .before .before .before .before .before in
+    let at-part = at-note .before .before .before .before .before .before in
+    let at-class-of = at-part .before .before .before .before .before .before .before .before .before .before in
+    let at-class-tag = at-class-of .before .before in
+    let at-writes = at-class-tag .before .before .before .before .before .before .before in
+    let entry = at-writes .before .before .before .before .before .before .before .before .before in
+    let t = at-class-tag .class-tag in
+    let k = at-class-of .class-of in
+    let p = at-part .part in
+    let n = at-note .note in
+    rw (at-writes .writes .ensures)
+    (fork-done (entry .pre) (t .result) (t .ensures) (k .result) (k .ensures) _ (c .replay .result) (p .result) (p .ensures) (n .ensures) (n .kept .0)
+    (c .replay .ensures))
 
 pub fork-on-spec : {M : Type 1} → statement M
 fork-on-spec =
     tie.close
     (tie.spec
-    writes-requires
+    (λ c κs. search needs)
     add-steps
     add-used
     add-used-2
     add-forks
-    class-tag-requires
-    class-of-requires
+    (λ c κs. search needs)
+    (λ c κs. search needs)
     mul-lo
     slice-read-lo
     mul-hi
     slice-read-hi
-    hint-requires
-    split-requires
-    replay-requires
+    (λ c κs. search needs)
+    part-requires
+    note-requires
+    (λ c κs. search needs)
     same-length
     same-length-2
     same-length-3

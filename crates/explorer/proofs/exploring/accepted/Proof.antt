@@ -7,62 +7,78 @@ use Rattle.explorer.proofs.exploring.accepted.Statement.{statement}
 use Rattle.explorer.proofs.exploring.accepted.Tie as tie
 
 copied-requires : tie.Need-copied-requires
-copied-requires c κs = memory-count (now (c .before .before .before .before .before .args .code)) (now (c .before .before .before .before .before .args .memory)) (now (c .before .before .before .before .before .args .intervals)) (now (c .before .before .before .before .before .args .table)) (now (c .before .before .before .before .before .args .report)) (c .before .before .before .before .before .args .limit) (c .before .before .before .before .before .args .first) (c .before .before .before .before .before .pre)
-
-ends-requires : tie.Need-ends-requires
-ends-requires c κs = search needs
-
-ends-requires-2 : tie.Need-ends-requires-2
-ends-requires-2 c κs = search needs
+copied-requires c κs =
+    let entry = c .before .before .before .before .before in
+    memory-count _ _ _ (now (entry .args .table)) _ _ _ (entry .pre)
 
 add-t22 : tie.Need-add-t22
-add-t22 c = record { fits = end-small (now (c .before .before .before .before .before .before .before .before .args .code)) (now (c .before .before .before .before .before .before .before .before .args .memory)) (now (c .before .before .before .before .before .before .before .before .args .intervals)) (now (c .before .before .before .before .before .before .before .before .args .table)) (now (c .before .before .before .before .before .before .before .before .args .report)) (c .before .before .before .before .before .before .before .before .args .limit) (c .before .before .before .before .before .before .before .before .args .first) (c .before .before .before .before .before .before .before .before .pre) (c .before .before .before .before .before .before .before .before .good .1 .1 .1 .1 .1 .0 .0) }
+add-t22 c =
+    let h = c .before .before .before .before .before .before .before .before in
+    record { fits = end-small _ _ _ (now (h .args .table)) _ _ _ (h .pre) (h .good .1 .1 .1 .1 .1 .0 .0) }
 
 array-borrow-prefix-lows : tie.Need-array-borrow-prefix-lows
-array-borrow-prefix-lows c = prefix-fits (now (c .before .before .before .before .before .before .before .before .before .args .code)) (now (c .before .before .before .before .before .before .before .before .before .args .memory)) (now (c .before .before .before .before .before .before .before .before .before .args .intervals)) (now (c .before .before .before .before .before .before .before .before .before .args .table)) (now (c .before .before .before .before .before .before .before .before .before .args .report)) (c .before .before .before .before .before .before .before .before .before .args .limit) (c .before .before .before .before .before .before .before .before .before .args .first) (c .before .before .before .before .before .before .before .before .before .pre) 0 _ (c .before .before .ends .ensures)
+array-borrow-prefix-lows c =
+    let at-ends = c .before .before in
+    let entry = at-ends .before .before .before .before .before .before .before in
+    prefix-fits _ _ _ (now (entry .args .table)) _ _ _ (entry .pre) 0 _ (at-ends .ends .ensures)
 
 slice-aggregate-explore-box : tie.Need-slice-aggregate-explore-box
-slice-aggregate-explore-box c = prefix-length (now (c .before .before .before .before .before .before .before .before .before .before .args .code)) (now (c .before .before .before .before .before .before .before .before .before .before .args .memory)) (now (c .before .before .before .before .before .before .before .before .before .before .args .intervals)) (now (c .before .before .before .before .before .before .before .before .before .before .args .table)) (now (c .before .before .before .before .before .before .before .before .before .before .args .report)) (c .before .before .before .before .before .before .before .before .before .before .args .limit) (c .before .before .before .before .before .before .before .before .before .before .args .first) (c .before .before .before .before .before .before .before .before .before .before .pre) 0 _ (c .before .before .before .ends .ensures)
+slice-aggregate-explore-box c =
+    let at-ends = c .before .before .before in
+    let entry = at-ends .before .before .before .before .before .before .before in
+    prefix-length _ _ _ (now (entry .args .table)) _ _ _ (entry .pre) 0 _ (at-ends .ends .ensures)
 
 array-borrow-prefix-highs : tie.Need-array-borrow-prefix-highs
-array-borrow-prefix-highs c = prefix-fits (now (c .before .before .before .before .before .before .before .before .before .before .args .code)) (now (c .before .before .before .before .before .before .before .before .before .before .args .memory)) (now (c .before .before .before .before .before .before .before .before .before .before .args .intervals)) (now (c .before .before .before .before .before .before .before .before .before .before .args .table)) (now (c .before .before .before .before .before .before .before .before .before .before .args .report)) (c .before .before .before .before .before .before .before .before .before .before .args .limit) (c .before .before .before .before .before .before .before .before .before .before .args .first) (c .before .before .before .before .before .before .before .before .before .before .pre) 1 _ (c .before .before .ends2 .ensures)
+array-borrow-prefix-highs c =
+    let at-ends2 = c .before .before in
+    let entry = at-ends2 .before .before .before .before .before .before .before .before in
+    prefix-fits _ _ _ (now (entry .args .table)) _ _ _ (entry .pre) 1 _ (at-ends2 .ends2 .ensures)
 
 slice-aggregate-explore-box-2 : tie.Need-slice-aggregate-explore-box-2
-slice-aggregate-explore-box-2 c = prefix-length (now (c .before .before .before .before .before .before .before .before .before .before .before .args .code)) (now (c .before .before .before .before .before .before .before .before .before .before .before .args .memory)) (now (c .before .before .before .before .before .before .before .before .before .before .before .args .intervals)) (now (c .before .before .before .before .before .before .before .before .before .before .before .args .table)) (now (c .before .before .before .before .before .before .before .before .before .before .before .args .report)) (c .before .before .before .before .before .before .before .before .before .before .before .args .limit) (c .before .before .before .before .before .before .before .before .before .before .before .args .first) (c .before .before .before .before .before .before .before .before .before .before .before .pre) 1 _ (c .before .before .before .ends2 .ensures)
+slice-aggregate-explore-box-2 c =
+    let at-ends2 = c .before .before .before in
+    let entry = at-ends2 .before .before .before .before .before .before .before .before in
+    prefix-length _ _ _ (now (entry .args .table)) _ _ _ (entry .pre) 1 _ (at-ends2 .ends2 .ensures)
 
 explore-box-requires : tie.Need-explore-box-requires
-explore-box-requires c κs = rw (c .before .before .before .before .before .before .before .copied .ensures, c .before .before .before .before .before .before .ends .ensures, c .before .before .before .before .before .ends2 .ensures) (call-begins (now (c .before .before .before .before .before .before .before .before .before .before .before .before .before .args .code)) (now (c .before .before .before .before .before .before .before .before .before .before .before .before .before .args .memory)) (now (c .before .before .before .before .before .before .before .before .before .before .before .before .before .args .intervals)) (now (c .before .before .before .before .before .before .before .before .before .before .before .before .before .args .table)) (now (c .before .before .before .before .before .before .before .before .before .before .before .before .before .args .report)) (c .before .before .before .before .before .before .before .before .before .before .before .before .before .args .limit) (c .before .before .before .before .before .before .before .before .before .before .before .before .before .args .first) (c .before .before .before .before .before .before .before .before .before .before .before .before .before .pre) (λ k. omega (arith, c .before .before .before .before .before .before .before .before .before .before .before .shared-slice-known2 .given k)) (λ k. omega (arith, c .before .before .before .before .before .before .before .before .before .before .shared-slice-known3 .given k)) (c .before .before .before .before .before .before .before .before .before .before .before .before .before .good .1 .1 .1 .1 .1 .0 .0))
-
-clear-requires : tie.Need-clear-requires
-clear-requires c κs = search needs
-
-past-requires : tie.Need-past-requires
-past-requires c κs = search needs
-
-same-length : tie.Need-same-length
-same-length c = search needs
-
-same-length-2 : tie.Need-same-length-2
-same-length-2 c = search needs
+explore-box-requires c κs =
+    let at-ends2 = c .before .before .before .before .before in
+    let at-ends = at-ends2 .before in
+    let at-copied = at-ends .before in
+    let at-shared-slice-known3 = at-copied .before .before .before in
+    let at-shared-slice-known2 = at-shared-slice-known3 .before in
+    let entry = at-shared-slice-known2 .before .before in
+    let h = entry in
+    let intervals = at-shared-slice-known3 .shared-slice-known3 .given in
+    let memory = at-shared-slice-known2 .shared-slice-known2 .given in
+    rw (at-copied .copied .ensures, at-ends .ends .ensures, at-ends2 .ends2 .ensures)
+    (call-begins _ _ _ (now (h .args .table)) _ _ _ (h .pre) (λ k. omega (arith, memory k)) (λ k. omega (arith, intervals k)) (h .good .1 .1 .1 .1 .1 .0 .0))
 
 returns : tie.Need-returns
-returns c = rw (c .past .ensures, c .before .before .before .clear .ensures, c .before .before .before .before .before .before .before .before .before .before .before .explore-box .kept .1 .1 .1 .1 .1 .1 .1 .0) (call-leaves (now (c .before .before .before .before .before .before .before .before .before .before .before .before .before .before .before .before .before .before .before .before .before .before .before .before .before .args .code)) (now (c .before .before .before .before .before .before .before .before .before .before .before .before .before .before .before .before .before .before .before .before .before .before .before .before .before .args .memory)) (now (c .before .before .before .before .before .before .before .before .before .before .before .before .before .before .before .before .before .before .before .before .before .before .before .before .before .args .intervals)) (now (c .before .before .before .before .before .before .before .before .before .before .before .before .before .before .before .before .before .before .before .before .before .before .before .before .before .args .table)) (now (c .before .before .before .before .before .before .before .before .before .before .before .before .before .before .before .before .before .before .before .before .before .before .before .before .before .args .report)) (c .before .before .before .before .before .before .before .before .before .before .before .before .before .before .before .before .before .before .before .before .before .before .before .before .before .args .limit) (c .before .before .before .before .before .before .before .before .before .before .before .before .before .before .before .before .before .before .before .before .before .before .before .before .before .args .first) (c .before .before .before .before .before .before .before .before .before .before .before .before .before .before .before .before .before .before .before .before .before .before .before .before .before .pre) _ (c .before .before .before .before .before .before .before .before .before .before .before .explore-box .result) (rw (c .before .before .before .before .before .before .before .before .before .before .before .before .before .before .before .before .before .before .before .copied .ensures) at (c .before .before .before .before .before .before .before .before .before .before .before .explore-box .ensures)))
+returns c =
+    let at-clear = c .before .before .before in
+    let at-explore-box = at-clear .before .before .before .before .before .before .before .before in
+    let at-copied = at-explore-box .before .before .before .before .before .before .before .before in
+    let entry = at-copied .before .before .before .before .before .before in
+    let e = at-explore-box .explore-box in
+    rw (c .past .ensures, at-clear .clear .ensures, e .kept .1 .1 .1 .1 .1 .1 .1 .0)
+    (call-leaves _ _ _ (now (entry .args .table)) _ _ _ (entry .pre) _ (e .result) (rw (at-copied .copied .ensures) at (e .ensures)))
 
 pub accepted-spec : {M : Type 1} → statement M
 accepted-spec =
     tie.close
     (tie.spec
     copied-requires
-    ends-requires
-    ends-requires-2
+    (λ c κs. search needs)
+    (λ c κs. search needs)
     add-t22
     array-borrow-prefix-lows
     slice-aggregate-explore-box
     array-borrow-prefix-highs
     slice-aggregate-explore-box-2
     explore-box-requires
-    clear-requires
-    past-requires
-    same-length
-    same-length-2
+    (λ c κs. search needs)
+    (λ c κs. search needs)
+    (λ c. search needs)
+    (λ c. search needs)
     returns)

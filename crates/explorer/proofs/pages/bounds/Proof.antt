@@ -8,7 +8,10 @@ use Rattle.explorer.proofs.pages.bounds.Statement.{statement}
 use Rattle.explorer.proofs.pages.bounds.Tie as tie
 
 abbrev Inv-loop : tie.InvT-loop
-Inv-loop low high lesser₀ greater₀ k₀ lesser greater k = (k ≤ 32) × Filled (λ r. min (getD low r 0) (getD high r 0)) 32 lesser k × Filled (λ r. max (getD low r 0) (getD high r 0)) 32 greater k
+Inv-loop low high lesser₀ greater₀ k₀ lesser greater k =
+    (k ≤ 32)
+    × Filled (λ r. min (getD low r 0) (getD high r 0)) 32 lesser k
+    × Filled (λ r. max (getD low r 0) (getD high r 0)) 32 greater k
 
 abbrev μ-loop : tie.MeasureT-loop
 μ-loop low high lesser₀ greater₀ k₀ lesser greater k = 32 - k
@@ -16,38 +19,15 @@ abbrev μ-loop : tie.MeasureT-loop
 loop-holds : tie.Need-loop-holds Inv-loop μ-loop
 loop-holds c = (omega arith, none-filled _ 32 _ refl, none-filled _ 32 _ refl)
 
-register-requires : tie.Need-register-requires Inv-loop μ-loop
-register-requires c κs = search needs
-
-register-requires-2 : tie.Need-register-requires-2 Inv-loop μ-loop
-register-requires-2 c κs = search needs
-
-least-requires : tie.Need-least-requires Inv-loop μ-loop
-least-requires c κs = search needs
-
-mul-lesser : tie.Need-mul-lesser Inv-loop μ-loop
-mul-lesser c = omega arith
-
-array-write-lesser : tie.Need-array-write-lesser Inv-loop μ-loop
-array-write-lesser c = omega arith
-
-greatest-requires : tie.Need-greatest-requires Inv-loop μ-loop
-greatest-requires c κs = search needs
-
-mul-greater : tie.Need-mul-greater Inv-loop μ-loop
-mul-greater c = omega arith
-
-array-write-greater : tie.Need-array-write-greater Inv-loop μ-loop
-array-write-greater c = omega arith
-
-add-k : tie.Need-add-k Inv-loop μ-loop
-add-k c = omega arith
-
-loop-less : tie.Need-loop-less Inv-loop μ-loop
-loop-less c = omega arith
-
 loop-again : tie.Need-loop-again Inv-loop μ-loop
-loop-again c = (omega arith, one-filled _ 32 (c .before .before .before .before .before .loop .inv .1) (omega arith) (c .before .least .ensures ∙ (λ i. min (c .before .before .before .register .ensures i) (c .before .before .register2 .ensures i))), one-filled _ 32 (c .before .before .before .before .before .loop .inv .2) (omega arith) (c .greatest .ensures ∙ (λ i. max (c .before .before .before .register .ensures i) (c .before .before .register2 .ensures i))))
+loop-again c =
+    let i = c .before .before .before .before .before .loop .inv in
+    let a = c .before .before .before .register .ensures in
+    let b = c .before .before .register2 .ensures in (
+      omega arith,
+      one-filled _ 32 (i .1) (omega arith) (c .before .least .ensures ∙ (λ k. min (a k) (b k))),
+      one-filled _ 32 (i .2) (omega arith) (c .greatest .ensures ∙ (λ k. max (a k) (b k))),
+    )
 
 returns : tie.Need-returns Inv-loop μ-loop
 returns c = (all-filled _ 32 (c .before .loop .inv .1) (omega arith), all-filled _ 32 (c .before .loop .inv .2) (omega arith))
@@ -59,15 +39,15 @@ bounds-spec =
     Inv-loop
     μ-loop
     loop-holds
-    register-requires
-    register-requires-2
-    least-requires
-    mul-lesser
-    array-write-lesser
-    greatest-requires
-    mul-greater
-    array-write-greater
-    add-k
-    loop-less
+    (λ c κs. search needs)
+    (λ c κs. search needs)
+    (λ c κs. search needs)
+    (λ c. omega arith)
+    (λ c. omega arith)
+    (λ c κs. search needs)
+    (λ c. omega arith)
+    (λ c. omega arith)
+    (λ c. omega arith)
+    (λ c. omega arith)
     loop-again
     returns)

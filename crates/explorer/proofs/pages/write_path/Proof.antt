@@ -6,21 +6,21 @@ use Rattle.explorer.proofs.pages.write_path.Tie as tie
 returns : tie.Need-returns
 returns c = rw (lt-ltb _ _ (c .if1 .taken))
 
-bounds-requires : tie.Need-bounds-requires
-bounds-requires c κs = search needs
-
-mul-at : tie.Need-mul-at
-mul-at c = search needs
-
-put-path-requires : tie.Need-put-path-requires
-put-path-requires c κs = search needs
-
-same-length : tie.Need-same-length
-same-length c = search needs
-
 returns-2 : tie.Need-returns-2
-returns-2 c = rw (le-ltb _ _ (c .before .before .before .before .before .before .before .before .before .before .before .before .if1 .left)) (rw (c .before .before .before .before .before .before .before .before .before .before .before .bounds .ensures .0, c .before .before .before .before .before .before .before .before .before .before .before .bounds .ensures .1) at (c .before .before .put-path .ensures))
+returns-2 c =
+    let at-put-path = c .before .before in
+    let at-bounds = at-put-path .before .before .before .before .before .before .before .before .before in
+    let at-if1 = at-bounds .before in
+    let e = at-bounds .bounds .ensures in
+    rw (le-ltb _ _ (at-if1 .if1 .left)) (rw (e .0, e .1) at (at-put-path .put-path .ensures))
 
 pub write-path-spec : {M : Type 1} → statement M
 write-path-spec =
-    tie.close (tie.spec returns bounds-requires mul-at put-path-requires same-length returns-2)
+    tie.close
+    (tie.spec
+    returns
+    (λ c κs. search needs)
+    (λ c. search needs)
+    (λ c κs. search needs)
+    (λ c. search needs)
+    returns-2)

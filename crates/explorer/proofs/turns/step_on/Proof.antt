@@ -6,20 +6,19 @@ use borrow.Author.Needs.{needs}
 use Rattle.explorer.proofs.turns.step_on.Statement.{statement}
 use Rattle.explorer.proofs.turns.step_on.Tie as tie
 
-writes-requires : tie.Need-writes-requires
-writes-requires c κs = search needs
-
-advance-requires : tie.Need-advance-requires
-advance-requires c κs = search needs
-
-add-t22 : tie.Need-add-t22
-add-t22 c = search needs
-
 add-t23 : tie.Need-add-t23
-add-t23 c = omega (arith, c .before .before .before .before .before .before .before .before .before .before .before .before .before .before .before .pre .1, c .before .before .before .before .before .before .before .before .before .writes .ensures, writes-small (ltb (c .before .before .before .before .before .before .before .before .before .before .before .before .before .before .before .args .s .at .low .reads) (c .before .before .before .before .before .before .before .before .before .before .before .before .before .before .before .args .limits .inputs)) (c .before .before .before .before .before .before .before .before .before .before .before .before .before .before .before .args .i))
+add-t23 c =
+    let at-writes = c .before .before .before .before .before .before .before .before .before in
+    let entry = at-writes .before .before .before .before .before .before in
+    let a = entry .args in
+    let small = writes-small (ltb (a .s .at .low .reads) (a .limits .inputs)) (a .i) in
+    omega (arith, entry .pre .1, at-writes .writes .ensures, small)
 
 returns : tie.Need-returns
-returns c = rw (c .before .before .before .before .before .before .before .before .before .writes .ensures) (refl, c .before .before .advance .ensures)
+returns c =
+    let at-advance = c .before .before in
+    let at-writes = at-advance .before .before .before .before .before .before .before in
+    rw (at-writes .writes .ensures) (refl, at-advance .advance .ensures)
 
 pub step-on-spec : {M : Type 1} → statement M
-step-on-spec = tie.close (tie.spec writes-requires advance-requires add-t22 add-t23 returns)
+step-on-spec = tie.close (tie.spec (λ c κs. search needs) (λ c κs. search needs) (λ c. search needs) add-t23 returns)

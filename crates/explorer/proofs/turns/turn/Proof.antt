@@ -1,6 +1,5 @@
-use Rattle.explorer.proofs.Explored.{explored-moved, explored-halted, work-halted, explored-dropped}
-use Rattle.explorer.proofs.Resuming.{top-inside, top-room}
-use Rattle.explorer.proofs.Stands.{steps-within}
+use Rattle.explorer.proofs.Explored.{explored-moved, explored-halted, explored-dropped}
+use Rattle.explorer.proofs.Resuming.{top-inside, top-entry}
 use Rattle.cuts.specs.Entries.{forkHeld}
 use Rattle.forks.specs.Stack.{Fork}
 use mathlib.Core.Bool.{true, false}
@@ -11,110 +10,125 @@ use borrow.Author.Needs.{needs}
 use Rattle.explorer.proofs.turns.turn.Statement.{statement}
 use Rattle.explorer.proofs.turns.turn.Tie as tie
 
-run-straight-requires : tie.Need-run-straight-requires
-run-straight-requires c κs = steps-within (c .before .before .before .before .before .before .before .before .before .before .before .before .before .pre .0 .held) (c .before .before .before .before .before .before .if1 .taken)
-
 group-turn-requires : tie.Need-group-turn-requires
 group-turn-requires c κs =
-    let b = c .before .before .before .before .before .before .before .before .before .before in
-    let k = b .run-straight .ensures .onto _ _ _ _ _ _ refl (b .before .before .before .before .before .before .before .before .before .before .before .before .before .before .pre .0) (b .before .before .before .before .before .before .before .before .before .before .before .before .before .before .pre .1) (b .before .before .before .before .before .before .before .if1 .taken) in
-    ((k .explored, k .going), k .running)
-
-same-length : tie.Need-same-length
-same-length c = search needs
-
-same-length-2 : tie.Need-same-length-2
-same-length-2 c = search needs
-
-same-length-3 : tie.Need-same-length-3
-same-length-3 c = search needs
-
-same-length-4 : tie.Need-same-length-4
-same-length-4 c = search needs
+    let at-run-straight = c .before .before .before .before .before .before .before .before .before .before in
+    let at-if1 = at-run-straight .before .before .before .before .before .before .before in
+    let entry = at-if1 .before .before .before .before .before .before .before in
+    let h = entry .pre in
+    let k = at-run-straight .run-straight .ensures .onto _ _ _ _ _ _ refl (h .explored) (h .going) (at-if1 .if1 .taken) in
+    (record { explored = k .explored; going = k .going }, k .running)
 
 returns : tie.Need-returns
 returns c =
-    let b = c .before .before .before .before .before .before .before .before .before .before .before .before .before .before .before .before .before .before .before in
-    let k = b .run-straight .ensures .onto _ _ _ _ _ _ refl (b .before .before .before .before .before .before .before .before .before .before .before .before .before .before .pre .0) (b .before .before .before .before .before .before .before .before .before .before .before .before .before .before .pre .1) (b .before .before .before .before .before .before .before .if1 .taken) in
-    let e = c .before .before .before .before .before .before .before .before .group-turn .ensures in
-    ((e .0 .0, omega (arith, e .0 .1, k .less)), (omega (arith, e .1 .0, k .paths), e .1 .1))
-
-halt-requires : tie.Need-halt-requires
-halt-requires c κs = search needs
+    let at-group-turn = c .before .before .before .before .before .before .before .before in
+    let at-run-straight = at-group-turn .before .before .before .before .before .before .before .before .before .before .before in
+    let at-if1 = at-run-straight .before .before .before .before .before .before .before in
+    let entry = at-if1 .before .before .before .before .before .before .before in
+    let h = entry .pre in
+    let k = at-run-straight .run-straight .ensures .onto _ _ _ _ _ _ refl (h .explored) (h .going) (at-if1 .if1 .taken) in
+    let t = at-group-turn .group-turn .ensures in
+    record { explored = t .explored; less = omega (arith, t .less, k .less); paths = omega (arith, t .paths, k .paths); kept = t .kept }
 
 returns-2 : tie.Need-returns-2
-returns-2 c = rw (c .halt .ensures) ((explored-halted (c .before .before .before .before .before .before .before .before .before .before .pre .0) (c .before .before .before .if1 .left) false (refl, inl (refl, c .before .if2 .taken)), work-halted _ _ (c .before .before .before .before .before .before .before .before .before .before .args .s) false (c .before .before .before .if1 .left) (c .before .before .before .before .before .before .before .before .before .before .pre .1)), (omega arith, refl))
-
-sub-below : tie.Need-sub-below
-sub-below c = search needs
+returns-2 c =
+    let at-if1 = c .before .before .before in
+    let entry = at-if1 .before .before .before .before .before .before .before in
+    rw (c .halt .ensures) (explored-halted (entry .pre) (at-if1 .if1 .left) false (refl, inl (refl, c .before .if2 .taken)))
 
 top-requires : tie.Need-top-requires
-top-requires c κs = top-room (c .before .before .before .before .before .before .before .before .before .before .before .pre .0 .held) (c .before .before .before .before .if1 .left) (omega (arith, c .before .before .if2 .left))
+top-requires c κs =
+    let at-if2 = c .before .before in
+    let at-if1 = at-if2 .before .before in
+    let entry = at-if1 .before .before .before .before .before .before .before in
+    top-entry (entry .pre .explored .held) (at-if1 .if1 .left) (omega (arith, at-if2 .if2 .left))
 
 set-interval-requires : tie.Need-set-interval-requires
-set-interval-requires c κs = let n = ap (λ (f : Fork). f .input) (c .before .before .before .before .top .ensures) in let o = top-inside (c .before .before .before .before .before .before .before .before .before .before .before .before .before .before .before .before .pre .0 .held) (c .before .before .before .before .before .before .before .before .before .if1 .left) (omega (arith, c .before .before .before .before .before .before .before .if2 .left)) in (omega (arith, n, o), omega (arith, n, c .before .before .before .before .before .before .before .before .before .before .before .before .before .before .before .before .pre .0 .held .paired, o))
-
-same-length-5 : tie.Need-same-length-5
-same-length-5 c = search needs
-
-same-length-6 : tie.Need-same-length-6
-same-length-6 c = search needs
-
-same-length-7 : tie.Need-same-length-7
-same-length-7 c = search needs
+set-interval-requires c κs =
+    let at-top = c .before .before .before .before in
+    let at-if2 = at-top .before .before .before in
+    let at-if1 = at-if2 .before .before in
+    let entry = at-if1 .before .before .before .before .before .before .before in
+    let h = entry .pre .explored .held in
+    let n = ap (λ (f : Fork). f .input) (at-top .top .ensures) in
+    let o = top-inside h (at-if1 .if1 .left) (omega (arith, at-if2 .if2 .left)) in
+    (omega (arith, n, o), omega (arith, n, h .fits .paired, o))
 
 returns-3 : tie.Need-returns-3
-returns-3 c = (explored-dropped (c .before .before .before .before .before .before .before .before .before .before .before .before .before .before .before .before .before .before .before .before .before .pre .0) (c .before .before .before .before .before .before .before .before .before .before .before .before .before .before .if1 .left) (c .before .before .before .before .before .before .before .before .before .before .before .before .before .before .before .before .before .before .before .before .before .pre .1) (omega (arith, c .before .before .before .before .before .before .before .before .before .before .before .before .if2 .left)) (forkHeld (c .before .before .before .before .before .before .before .before .before .top .result)) (c .before .before .before .before .before .before .before .before .before .top .ensures) (c .before .before .before .before .before .before .before .before .if3 .taken) _ _ (c .before .before .before .before .set-interval .ensures) (c .before .before .before .before .set-interval .kept .0) (c .before .before .before .before .set-interval .kept .1 .0), (omega arith, refl))
-
-halt-requires-2 : tie.Need-halt-requires-2
-halt-requires-2 c κs = search needs
-
-same-length-8 : tie.Need-same-length-8
-same-length-8 c = search needs
+returns-3 c =
+    let at-set-interval = c .before .before .before .before in
+    let at-if3 = at-set-interval .before .before .before .before in
+    let at-top = at-if3 .before in
+    let at-if2 = at-top .before .before .before in
+    let at-if1 = at-if2 .before .before in
+    let entry = at-if1 .before .before .before .before .before .before .before in
+    let f = at-top .top in
+    let i = at-set-interval .set-interval in
+    explored-dropped (entry .pre) (at-if1 .if1 .left) (omega (arith, at-if2 .if2 .left)) (forkHeld (f .result)) (f .ensures) (at-if3 .if3 .taken) _ _
+    (i .ensures) (i .kept .0) (i .kept .1 .0)
 
 returns-4 : tie.Need-returns-4
-returns-4 c = rw (c .halt2 .ensures) ((explored-halted (c .before .before .before .before .before .before .before .before .before .before .before .before .before .before .before .before .before .pre .0) (c .before .before .before .before .before .before .before .before .before .before .if1 .left) true (refl, inr (refl, omega (arith, c .before .before .before .before .before .before .before .before .if2 .left), sym (ap (λ (f : Fork). f .spent) (c .before .before .before .before .before .top .ensures)) ∙ c .before .before .before .before .if3 .left, c .before .if4 .taken)), work-halted _ _ (c .before .before .before .before .before .before .before .before .before .before .before .before .before .before .before .before .before .args .s) true (c .before .before .before .before .before .before .before .before .before .before .if1 .left) (c .before .before .before .before .before .before .before .before .before .before .before .before .before .before .before .before .before .pre .1)), (omega arith, refl))
+returns-4 c =
+    let at-if3 = c .before .before .before .before in
+    let at-top = at-if3 .before in
+    let at-if2 = at-top .before .before .before in
+    let at-if1 = at-if2 .before .before in
+    let entry = at-if1 .before .before .before .before .before .before .before in
+    let f = at-top .top in
+    let unspent = sym (ap (λ (f : Fork). f .spent) (f .ensures)) ∙ at-if3 .if3 .left in
+    rw (c .halt2 .ensures)
+    (explored-halted (entry .pre) (at-if1 .if1 .left) true (refl, inr (refl, omega (arith, at-if2 .if2 .left), unspent, c .before .if4 .taken)))
 
 resume-requires : tie.Need-resume-requires
-resume-requires c κs = (c .before .before .before .before .before .before .before .before .before .before .before .before .before .before .before .before .before .before .before .before .before .before .before .before .before .pre .0 .held, (c .before .before .before .before .before .before .before .before .before .before .before .before .before .before .before .before .before .before .if1 .left, c .before .before .before .before .before .before .before .before .before .before .before .before .before .before .before .before .before .before .before .before .before .before .before .before .before .pre .1, omega (arith, c .before .before .before .before .before .before .before .before .before .before .before .before .before .before .before .before .if2 .left), sym (ap (λ (f : Fork). f .spent) (c .before .before .before .before .before .before .before .before .before .before .before .before .before .top .ensures)) ∙ c .before .before .before .before .before .before .before .before .before .before .before .before .if3 .left))
-
-same-length-9 : tie.Need-same-length-9
-same-length-9 c = search needs
-
-same-length-10 : tie.Need-same-length-10
-same-length-10 c = search needs
-
-same-length-11 : tie.Need-same-length-11
-same-length-11 c = search needs
+resume-requires c κs =
+    let at-if3 = c .before .before .before .before .before .before .before .before .before .before .before .before in
+    let at-top = at-if3 .before in
+    let at-if2 = at-top .before .before .before in
+    let at-if1 = at-if2 .before .before in
+    let entry = at-if1 .before .before .before .before .before .before .before in
+    let h = entry .pre in
+    record {
+      held = h .explored .held;
+      running = at-if1 .if1 .left;
+      going = h .going;
+      some = omega (arith, at-if2 .if2 .left);
+      unspent = sym (ap (λ (f : Fork). f .spent) (at-top .top .ensures)) ∙ at-if3 .if3 .left;
+    }
 
 returns-5 : tie.Need-returns-5
-returns-5 c = let e = c .before .before .before .before .before .before .resume .ensures in ((explored-moved (c .before .before .before .before .before .before .before .before .before .before .before .before .before .before .before .before .before .before .before .before .before .before .before .before .before .before .before .before .before .before .before .before .pre .0) _ (c .before .before .before .before .before .before .resume .result) (e .0) (e .1 .0) (e .1 .1) (λ _. omega (arith, c .before .before .before .before .before .before .before .before .before .before .before .before .before .before .before .before .if4 .left, c .before .before .before .before .before .before .before .before .before .before .before .before .before .before .before .before .before .before .before .before .before .before .before .before .before .before .before .before .before .before .before .before .pre .0 .within)), e .1 .2), (omega (arith, e .1 .0), refl))
+returns-5 c =
+    let at-resume = c .before .before .before .before .before .before in
+    let at-if4 = at-resume .before .before .before .before .before .before .before .before .before .before in
+    let entry = at-if4 .before .before .before .before .before .before .before .before .before .before .before .before .before .before .before .before in
+    let e = entry .pre .explored in
+    let r = at-resume .resume in
+    explored-moved e _ (r .result) (r .ensures) (λ _. omega (arith, at-if4 .if4 .left, e .within))
 
 pub turn-spec : {M : Type 1} → statement M
 turn-spec =
     tie.close
     (tie.spec
-    run-straight-requires
+    (λ c κs. search needs)
     group-turn-requires
-    same-length
-    same-length-2
-    same-length-3
-    same-length-4
+    (λ c. search needs)
+    (λ c. search needs)
+    (λ c. search needs)
+    (λ c. search needs)
     returns
-    halt-requires
+    (λ c κs. search needs)
     returns-2
-    sub-below
+    (λ c. search needs)
     top-requires
     set-interval-requires
-    same-length-5
-    same-length-6
-    same-length-7
+    (λ c. search needs)
+    (λ c. search needs)
+    (λ c. search needs)
     returns-3
-    halt-requires-2
-    same-length-8
+    (λ c κs. search needs)
+    (λ c. search needs)
     returns-4
     resume-requires
-    same-length-9
-    same-length-10
-    same-length-11
+    (λ c. search needs)
+    (λ c. search needs)
+    (λ c. search needs)
     returns-5)

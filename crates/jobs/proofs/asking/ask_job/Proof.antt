@@ -1,157 +1,137 @@
-use Rattle.jobs.proofs.Asked.{goes, stops, opens, yes, whole-left, code-left, inputs-left, memory-left}
-use Rattle.jobs.specs.Job.{jobDoor, jobQuestions}
+-- `jobs::asking::ask_job` meets its contract: past the questions answered yes, the rest of the list has the first no.
+-- Assumes nothing.
+use mathlib.Core.Path.{_≡_, _∙_}
+use mathlib.Core.Bool.{Bool}
+use Prim.Native.Nat.{ℕ}
 use denote.Ref.{now}
+use lib.ListN.{drop}
 use borrow.Author.Needs.{needs}
+use Rattle.calls.specs.Call.{firstNo}
+use Rattle.calls.proofs.Asked.{goes, stops, passes}
+use Rattle.jobs.specs.Job.{headerAsks, jobAsks, jobQuestions, jobRefusalOf}
+use Rattle.jobs.specs.Reading.{Whole}
+use Rattle.jobs.specs.declared.JobRefusal.{JobRefusal}
+use Rattle.jobs.proofs.Asked.{yes, whole-left, code-left, inputs-left, memory-left}
 use Rattle.jobs.proofs.asking.ask_job.Statement.{statement}
 use Rattle.jobs.proofs.asking.ask_job.Tie as tie
 
-whole-blocks-requires : tie.Need-whole-blocks-requires
-whole-blocks-requires c κs = search needs
+-- the definition's answers on the job
+abbrev answer : tie.Else1 → JobRefusal → Bool
+answer c = jobAsks (now (c .before .before .before .args .bytes))
+
+abbrev Past : tie.Else1 → ℕ → Type 0
+Past c n = firstNo (answer c) (drop n jobQuestions) ≡ firstNo (answer c) jobQuestions
+
+whole : (c : tie.Else1) → Whole (now (c .before .before .before .args .bytes))
+whole c = whole-left _ (yes (c .before .whole-blocks .ensures) (c .if1 .left))
+
+past-1 : (c : tie.Else1) → Past c 1
+unfolding jobAsks
+past-1 c = goes _ _ _ (c .before .whole-blocks .ensures) (c .if1 .left)
+
+past-2 : (c : tie.Else2) → Past (c .before .before) 2
+unfolding jobAsks
+past-2 c = goes _ _ _ (c .before .checks-agree .ensures) (c .if2 .left) ∙ past-1 (c .before .before)
+
+past-3 : (c : tie.Else3) → Past (c .before .before .before .before) 3
+unfolding jobAsks headerAsks
+past-3 c = goes _ _ _ (c .before .code-fits .ensures) (c .if3 .left) ∙ past-2 (c .before .before)
+
+past-4 : (c : tie.Else4) → Past (c .before .before .before .before .before .before) 4
+unfolding jobAsks headerAsks
+past-4 c = goes _ _ _ (c .before .inputs-fit .ensures) (c .if4 .left) ∙ past-3 (c .before .before)
+
+past-5 : (c : tie.Else5) → Past (c .before .before .before .before .before .before .before .before) 5
+unfolding jobAsks headerAsks
+past-5 c = goes _ _ _ (c .before .in-order .ensures) (c .if5 .left) ∙ past-4 (c .before .before)
+
+past-6 : (c : tie.Else6) → Past (c .before .before .before .before .before .before .before .before .before .before) 6
+unfolding jobAsks headerAsks
+past-6 c = goes _ _ _ (c .before .limit-fits .ensures) (c .if6 .left) ∙ past-5 (c .before .before)
+
+past-7 : (c : tie.Else7) → Past (c .before .before .before .before .before .before .before .before .before .before .before .before) 7
+unfolding jobAsks headerAsks
+past-7 c = goes _ _ _ (c .before .memory-fits .ensures) (c .if7 .left) ∙ past-6 (c .before .before)
+
+past-8 : (c : tie.Else8) → Past (c .before .before .before .before .before .before .before .before .before .before .before .before .before .before) 8
+unfolding jobAsks headerAsks
+past-8 c = goes _ _ _ (c .before .first-fits .ensures) (c .if8 .left) ∙ past-7 (c .before .before)
+
+past-9 : (c : tie.Else9) → Past (c .before .before .before .before .before .before .before .before .before .before .before .before .before .before .before .before) 9
+unfolding jobAsks
+past-9 c = goes _ _ _ (c .before .well-formed .ensures) (c .if9 .left) ∙ past-8 (c .before .before)
 
 returns : tie.Need-returns
-unfolding jobDoor jobQuestions
-returns c =
-    stops _ _ (c .before .whole-blocks .ensures) (c .if1 .taken)
-
-checks-agree-requires : tie.Need-checks-agree-requires
-checks-agree-requires c κs = whole-left (now (c .before .before .before .args .bytes)) (yes (c .before .whole-blocks .ensures) (c .if1 .left))
+unfolding jobRefusalOf jobAsks
+returns c = stops _ _ _ (c .before .whole-blocks .ensures) (c .if1 .taken)
 
 returns-2 : tie.Need-returns-2
-unfolding jobDoor jobQuestions
-returns-2 c =
-    goes _ _ (c .before .before .before .whole-blocks .ensures) (c .before .before .if1 .left)
-    (stops _ _ (c .before .checks-agree .ensures) (c .if2 .taken))
-
-code-fits-requires : tie.Need-code-fits-requires
-code-fits-requires c κs = whole-left (now (c .before .before .before .before .before .args .bytes)) (yes (c .before .before .before .whole-blocks .ensures) (c .before .before .if1 .left))
+unfolding jobRefusalOf jobAsks
+returns-2 c = stops _ _ _ (c .before .checks-agree .ensures) (c .if2 .taken) ∙ past-1 (c .before .before)
 
 returns-3 : tie.Need-returns-3
-unfolding jobDoor jobQuestions
-returns-3 c =
-    goes _ _ (c .before .before .before .before .before .whole-blocks .ensures) (c .before .before .before .before .if1 .left)
-    (goes _ _ (c .before .before .before .checks-agree .ensures) (c .before .before .if2 .left)
-    (stops _ _ (c .before .code-fits .ensures) (c .if3 .taken)))
-
-inputs-fit-requires : tie.Need-inputs-fit-requires
-inputs-fit-requires c κs = whole-left (now (c .before .before .before .before .before .before .before .args .bytes)) (yes (c .before .before .before .before .before .whole-blocks .ensures) (c .before .before .before .before .if1 .left))
+unfolding jobRefusalOf jobAsks headerAsks
+returns-3 c = stops _ _ _ (c .before .code-fits .ensures) (c .if3 .taken) ∙ past-2 (c .before .before)
 
 returns-4 : tie.Need-returns-4
-unfolding jobDoor jobQuestions
-returns-4 c =
-    goes _ _ (c .before .before .before .before .before .before .before .whole-blocks .ensures) (c .before .before .before .before .before .before .if1 .left)
-    (goes _ _ (c .before .before .before .before .before .checks-agree .ensures) (c .before .before .before .before .if2 .left)
-    (goes _ _ (c .before .before .before .code-fits .ensures) (c .before .before .if3 .left)
-    (stops _ _ (c .before .inputs-fit .ensures) (c .if4 .taken))))
-
-in-order-requires : tie.Need-in-order-requires
-in-order-requires c κs = (whole-left (now (c .before .before .before .before .before .before .before .before .before .args .bytes)) (yes (c .before .before .before .before .before .before .before .whole-blocks .ensures) (c .before .before .before .before .before .before .if1 .left)), inputs-left (now (c .before .before .before .before .before .before .before .before .before .args .bytes)) (yes (c .before .inputs-fit .ensures) (c .if4 .left)))
+unfolding jobRefusalOf jobAsks headerAsks
+returns-4 c = stops _ _ _ (c .before .inputs-fit .ensures) (c .if4 .taken) ∙ past-3 (c .before .before)
 
 returns-5 : tie.Need-returns-5
-unfolding jobDoor jobQuestions
-returns-5 c =
-    goes _ _ (c .before .before .before .before .before .before .before .before .before .whole-blocks .ensures) (c .before .before .before .before .before .before .before .before .if1 .left)
-    (goes _ _ (c .before .before .before .before .before .before .before .checks-agree .ensures) (c .before .before .before .before .before .before .if2 .left)
-    (goes _ _ (c .before .before .before .before .before .code-fits .ensures) (c .before .before .before .before .if3 .left)
-    (goes _ _ (c .before .before .before .inputs-fit .ensures) (c .before .before .if4 .left)
-    (stops _ _ (c .before .in-order .ensures) (c .if5 .taken)))))
-
-limit-fits-requires : tie.Need-limit-fits-requires
-limit-fits-requires c κs = whole-left (now (c .before .before .before .before .before .before .before .before .before .before .before .args .bytes)) (yes (c .before .before .before .before .before .before .before .before .before .whole-blocks .ensures) (c .before .before .before .before .before .before .before .before .if1 .left))
+unfolding jobRefusalOf jobAsks headerAsks
+returns-5 c = stops _ _ _ (c .before .in-order .ensures) (c .if5 .taken) ∙ past-4 (c .before .before)
 
 returns-6 : tie.Need-returns-6
-unfolding jobDoor jobQuestions
-returns-6 c =
-    goes _ _ (c .before .before .before .before .before .before .before .before .before .before .before .whole-blocks .ensures) (c .before .before .before .before .before .before .before .before .before .before .if1 .left)
-    (goes _ _ (c .before .before .before .before .before .before .before .before .before .checks-agree .ensures) (c .before .before .before .before .before .before .before .before .if2 .left)
-    (goes _ _ (c .before .before .before .before .before .before .before .code-fits .ensures) (c .before .before .before .before .before .before .if3 .left)
-    (goes _ _ (c .before .before .before .before .before .inputs-fit .ensures) (c .before .before .before .before .if4 .left)
-    (goes _ _ (c .before .before .before .in-order .ensures) (c .before .before .if5 .left)
-    (stops _ _ (c .before .limit-fits .ensures) (c .if6 .taken))))))
-
-memory-fits-requires : tie.Need-memory-fits-requires
-memory-fits-requires c κs = whole-left (now (c .before .before .before .before .before .before .before .before .before .before .before .before .before .args .bytes)) (yes (c .before .before .before .before .before .before .before .before .before .before .before .whole-blocks .ensures) (c .before .before .before .before .before .before .before .before .before .before .if1 .left))
+unfolding jobRefusalOf jobAsks headerAsks
+returns-6 c = stops _ _ _ (c .before .limit-fits .ensures) (c .if6 .taken) ∙ past-5 (c .before .before)
 
 returns-7 : tie.Need-returns-7
-unfolding jobDoor jobQuestions
-returns-7 c =
-    goes _ _ (c .before .before .before .before .before .before .before .before .before .before .before .before .before .whole-blocks .ensures) (c .before .before .before .before .before .before .before .before .before .before .before .before .if1 .left)
-    (goes _ _ (c .before .before .before .before .before .before .before .before .before .before .before .checks-agree .ensures) (c .before .before .before .before .before .before .before .before .before .before .if2 .left)
-    (goes _ _ (c .before .before .before .before .before .before .before .before .before .code-fits .ensures) (c .before .before .before .before .before .before .before .before .if3 .left)
-    (goes _ _ (c .before .before .before .before .before .before .before .inputs-fit .ensures) (c .before .before .before .before .before .before .if4 .left)
-    (goes _ _ (c .before .before .before .before .before .in-order .ensures) (c .before .before .before .before .if5 .left)
-    (goes _ _ (c .before .before .before .limit-fits .ensures) (c .before .before .if6 .left)
-    (stops _ _ (c .before .memory-fits .ensures) (c .if7 .taken)))))))
-
-first-fits-requires : tie.Need-first-fits-requires
-first-fits-requires c κs = whole-left (now (c .before .before .before .before .before .before .before .before .before .before .before .before .before .before .before .args .bytes)) (yes (c .before .before .before .before .before .before .before .before .before .before .before .before .before .whole-blocks .ensures) (c .before .before .before .before .before .before .before .before .before .before .before .before .if1 .left))
+unfolding jobRefusalOf jobAsks headerAsks
+returns-7 c = stops _ _ _ (c .before .memory-fits .ensures) (c .if7 .taken) ∙ past-6 (c .before .before)
 
 returns-8 : tie.Need-returns-8
-unfolding jobDoor jobQuestions
-returns-8 c =
-    goes _ _ (c .before .before .before .before .before .before .before .before .before .before .before .before .before .before .before .whole-blocks .ensures) (c .before .before .before .before .before .before .before .before .before .before .before .before .before .before .if1 .left)
-    (goes _ _ (c .before .before .before .before .before .before .before .before .before .before .before .before .before .checks-agree .ensures) (c .before .before .before .before .before .before .before .before .before .before .before .before .if2 .left)
-    (goes _ _ (c .before .before .before .before .before .before .before .before .before .before .before .code-fits .ensures) (c .before .before .before .before .before .before .before .before .before .before .if3 .left)
-    (goes _ _ (c .before .before .before .before .before .before .before .before .before .inputs-fit .ensures) (c .before .before .before .before .before .before .before .before .if4 .left)
-    (goes _ _ (c .before .before .before .before .before .before .before .in-order .ensures) (c .before .before .before .before .before .before .if5 .left)
-    (goes _ _ (c .before .before .before .before .before .limit-fits .ensures) (c .before .before .before .before .if6 .left)
-    (goes _ _ (c .before .before .before .memory-fits .ensures) (c .before .before .if7 .left)
-    (stops _ _ (c .before .first-fits .ensures) (c .if8 .taken))))))))
+unfolding jobRefusalOf jobAsks headerAsks
+returns-8 c = stops _ _ _ (c .before .first-fits .ensures) (c .if8 .taken) ∙ past-7 (c .before .before)
 
 well-formed-requires : tie.Need-well-formed-requires
 well-formed-requires c κs =
+    let at-memory = c .before .before in
+    let at-inputs = at-memory .before .before .before .before .before .before in
+    let at-code = at-inputs .before .before in
     record {
-      whole = whole-left (now (c .before .before .before .before .before .before .before .before .before .before .before .before .before .before .before .before .before .args .bytes)) (yes (c .before .before .before .before .before .before .before .before .before .before .before .before .before .before .before .whole-blocks .ensures) (c .before .before .before .before .before .before .before .before .before .before .before .before .before .before .if1 .left));
-      code = code-left (now (c .before .before .before .before .before .before .before .before .before .before .before .before .before .before .before .before .before .args .bytes)) (yes (c .before .before .before .before .before .before .before .before .before .before .before .code-fits .ensures) (c .before .before .before .before .before .before .before .before .before .before .if3 .left));
-      inputs = inputs-left (now (c .before .before .before .before .before .before .before .before .before .before .before .before .before .before .before .before .before .args .bytes)) (yes (c .before .before .before .before .before .before .before .before .before .inputs-fit .ensures) (c .before .before .before .before .before .before .before .before .if4 .left));
-      given = memory-left (now (c .before .before .before .before .before .before .before .before .before .before .before .before .before .before .before .before .before .args .bytes)) (yes (c .before .before .before .memory-fits .ensures) (c .before .before .if7 .left));
+      whole = whole (at-code .before .before .before .before);
+      code = code-left _ (yes (at-code .before .code-fits .ensures) (at-code .if3 .left));
+      inputs = inputs-left _ (yes (at-inputs .before .inputs-fit .ensures) (at-inputs .if4 .left));
+      given = memory-left _ (yes (at-memory .before .memory-fits .ensures) (at-memory .if7 .left));
     }
 
 returns-9 : tie.Need-returns-9
-unfolding jobDoor jobQuestions
-returns-9 c =
-    goes _ _ (c .before .before .before .before .before .before .before .before .before .before .before .before .before .before .before .before .before .whole-blocks .ensures) (c .before .before .before .before .before .before .before .before .before .before .before .before .before .before .before .before .if1 .left)
-    (goes _ _ (c .before .before .before .before .before .before .before .before .before .before .before .before .before .before .before .checks-agree .ensures) (c .before .before .before .before .before .before .before .before .before .before .before .before .before .before .if2 .left)
-    (goes _ _ (c .before .before .before .before .before .before .before .before .before .before .before .before .before .code-fits .ensures) (c .before .before .before .before .before .before .before .before .before .before .before .before .if3 .left)
-    (goes _ _ (c .before .before .before .before .before .before .before .before .before .before .before .inputs-fit .ensures) (c .before .before .before .before .before .before .before .before .before .before .if4 .left)
-    (goes _ _ (c .before .before .before .before .before .before .before .before .before .in-order .ensures) (c .before .before .before .before .before .before .before .before .if5 .left)
-    (goes _ _ (c .before .before .before .before .before .before .before .limit-fits .ensures) (c .before .before .before .before .before .before .if6 .left)
-    (goes _ _ (c .before .before .before .before .before .memory-fits .ensures) (c .before .before .before .before .if7 .left)
-    (goes _ _ (c .before .before .before .first-fits .ensures) (c .before .before .if8 .left)
-    (stops _ _ (c .before .well-formed .ensures) (c .if9 .taken)))))))))
+unfolding jobRefusalOf jobAsks
+returns-9 c = stops _ _ _ (c .before .well-formed .ensures) (c .if9 .taken) ∙ past-8 (c .before .before)
 
 returns-10 : tie.Need-returns-10
-unfolding jobDoor jobQuestions
-returns-10 c =
-    goes _ _ (c .before .before .before .before .before .before .before .before .before .before .before .before .before .before .before .before .before .whole-blocks .ensures) (c .before .before .before .before .before .before .before .before .before .before .before .before .before .before .before .before .if1 .left)
-    (goes _ _ (c .before .before .before .before .before .before .before .before .before .before .before .before .before .before .before .checks-agree .ensures) (c .before .before .before .before .before .before .before .before .before .before .before .before .before .before .if2 .left)
-    (goes _ _ (c .before .before .before .before .before .before .before .before .before .before .before .before .before .code-fits .ensures) (c .before .before .before .before .before .before .before .before .before .before .before .before .if3 .left)
-    (goes _ _ (c .before .before .before .before .before .before .before .before .before .before .before .inputs-fit .ensures) (c .before .before .before .before .before .before .before .before .before .before .if4 .left)
-    (goes _ _ (c .before .before .before .before .before .before .before .before .before .in-order .ensures) (c .before .before .before .before .before .before .before .before .if5 .left)
-    (goes _ _ (c .before .before .before .before .before .before .before .limit-fits .ensures) (c .before .before .before .before .before .before .if6 .left)
-    (goes _ _ (c .before .before .before .before .before .memory-fits .ensures) (c .before .before .before .before .if7 .left)
-    (goes _ _ (c .before .before .before .first-fits .ensures) (c .before .before .if8 .left)
-    (goes _ _ (c .before .well-formed .ensures) (c .if9 .left)
-    opens))))))))
+unfolding jobRefusalOf
+returns-10 c = passes _ ∙ past-9 c
 
 pub ask-job-spec : {M : Type 1} → statement M
 ask-job-spec =
     tie.close
     (tie.spec
-    whole-blocks-requires
+    (λ c κs. search needs)
     returns
-    checks-agree-requires
+    (λ c κs. search needs)
     returns-2
-    code-fits-requires
+    (λ c κs. whole (c .before .before))
     returns-3
-    inputs-fit-requires
+    (λ c κs. whole (c .before .before .before .before))
     returns-4
-    in-order-requires
+    (λ c κs. (whole (c .before .before .before .before .before .before), inputs-left _ (yes (c .before .inputs-fit .ensures) (c .if4 .left))))
     returns-5
-    limit-fits-requires
+    (λ c κs. whole (c .before .before .before .before .before .before .before .before))
     returns-6
-    memory-fits-requires
+    (λ c κs. whole (c .before .before .before .before .before .before .before .before .before .before))
     returns-7
-    first-fits-requires
+    (λ c κs. whole (c .before .before .before .before .before .before .before .before .before .before .before .before))
     returns-8
     well-formed-requires
     returns-9

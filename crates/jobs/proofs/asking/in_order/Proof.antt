@@ -1,4 +1,4 @@
-use Rattle.jobs.proofs.Each.{pairs-begin, pairsFrom, pairs-end, pairs-stop, pairs-go}
+use Rattle.jobs.proofs.Pairs.{pairs-begin, pairsFrom, pairs-end, pairs-stop, pairs-go}
 use Rattle.jobs.specs.Job.{intervalAt, intervalsIn, ordered}
 use denote.Ref.{now}
 use native.Mathlib.Omega.{arith}
@@ -20,29 +20,14 @@ loop-holds : tie.Need-loop-holds Inv-loop μ-loop
 unfolding ordered intervalsIn
 loop-holds c = (omega arith, pairs-begin (intervalAt (now (c .before .before .args .bytes))) _ _ (c .word .ensures))
 
-mul-interval-word : tie.Need-mul-interval-word Inv-loop μ-loop
-mul-interval-word c = omega arith
-
 interval-word-requires : tie.Need-interval-word-requires Inv-loop μ-loop
 interval-word-requires c κs = (c .before .before .before .before .pre .0, omega (arith, c .before .before .word .ensures, c .before .before .before .before .pre .1))
-
-mul-interval-word-2 : tie.Need-mul-interval-word-2 Inv-loop μ-loop
-mul-interval-word-2 c = omega arith
-
-add-interval-word : tie.Need-add-interval-word Inv-loop μ-loop
-add-interval-word c = omega arith
 
 interval-word-requires-2 : tie.Need-interval-word-requires-2 Inv-loop μ-loop
 interval-word-requires-2 c κs = (c .before .before .before .before .before .pre .0, omega (arith, c .before .before .before .word .ensures, c .before .before .before .before .before .pre .1))
 
 returns : tie.Need-returns Inv-loop μ-loop
 returns c = sym (c .before .before .before .before .loop .inv .1 ∙ pairs-stop (intervalAt (now (c .before .before .before .before .before .before .before .args .bytes))) (c .before .before .before .before .loop .k) _ (omega arith) (omega (arith, c .before .before .interval-word .ensures, c .before .interval-word2 .ensures)))
-
-add-k : tie.Need-add-k Inv-loop μ-loop
-add-k c = omega arith
-
-loop-less : tie.Need-loop-less Inv-loop μ-loop
-loop-less c = omega arith
 
 loop-again : tie.Need-loop-again Inv-loop μ-loop
 loop-again c = (omega arith, c .before .before .before .before .loop .inv .1 ∙ pairs-go (intervalAt (now (c .before .before .before .before .before .before .before .args .bytes))) (c .before .before .before .before .loop .k) _ (omega arith) (omega (arith, c .before .before .interval-word .ensures, c .before .interval-word2 .ensures)))
@@ -58,13 +43,13 @@ in-order-spec =
     μ-loop
     word-requires
     loop-holds
-    mul-interval-word
+    (λ c. omega arith)
     interval-word-requires
-    mul-interval-word-2
-    add-interval-word
+    (λ c. omega arith)
+    (λ c. omega arith)
     interval-word-requires-2
     returns
-    add-k
-    loop-less
+    (λ c. omega arith)
+    (λ c. omega arith)
     loop-again
     returns-2)

@@ -3,12 +3,9 @@ use borrow.Author.Needs.{needs}
 use Rattle.jobs.proofs.asking.inputs_fit.Statement.{statement}
 use Rattle.jobs.proofs.asking.inputs_fit.Tie as tie
 
-word-requires : tie.Need-word-requires
-word-requires c κs = search needs
-
 returns : tie.Need-returns
 unfolding inputsFit
 returns c = rw (c .word .ensures)
 
 pub inputs-fit-spec : {M : Type 1} → statement M
-inputs-fit-spec = tie.close (tie.spec word-requires returns)
+inputs-fit-spec = tie.close (tie.spec (λ c κs. search needs) returns)

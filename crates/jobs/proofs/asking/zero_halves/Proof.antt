@@ -1,5 +1,6 @@
-use Rattle.jobs.proofs.Each.{each-end, each-stop, each-go}
-use Rattle.jobs.specs.Job.{each, zeroHalf, zeroHalves}
+use Rattle.blocks.proofs.Each.{each-end, each-stop, each-go}
+use Rattle.jobs.specs.Job.{zeroHalf, zeroHalves}
+use Rattle.blocks.specs.Block.{each}
 use denote.Ref.{now}
 use borrow.Author.Tests.{eq-eqb, ne-eqb}
 use native.Mathlib.Omega.{arith}
@@ -24,12 +25,6 @@ code-word-requires c κs = (c .before .before .before .pre .0, omega arith)
 returns : tie.Need-returns Inv-loop μ-loop
 returns c = sym (c .before .before .before .loop .inv .1 ∙ each-stop (zeroHalf (now (c .before .before .before .before .before .args .bytes))) (c .before .before .before .loop .k) (c .before .before .before .before .before .args .e) (omega arith) (rw (sym (c .before .code-word .ensures)) (ne-eqb _ _ (c .if1 .taken))))
 
-add-k : tie.Need-add-k Inv-loop μ-loop
-add-k c = omega arith
-
-loop-less : tie.Need-loop-less Inv-loop μ-loop
-loop-less c = omega arith
-
 loop-again : tie.Need-loop-again Inv-loop μ-loop
 loop-again c = (omega arith, c .before .before .before .loop .inv .1 ∙ each-go (zeroHalf (now (c .before .before .before .before .before .args .bytes))) (c .before .before .before .loop .k) (c .before .before .before .before .before .args .e) (omega arith) (eq-eqb _ _ (sym (c .before .code-word .ensures) ∙ c .if1 .left)))
 
@@ -45,7 +40,7 @@ zero-halves-spec =
     loop-holds
     code-word-requires
     returns
-    add-k
-    loop-less
+    (λ c. omega arith)
+    (λ c. omega arith)
     loop-again
     returns-2)

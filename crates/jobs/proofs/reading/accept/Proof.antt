@@ -1,4 +1,4 @@
-use Rattle.jobs.proofs.Asked.{open-sized}
+use Rattle.jobs.proofs.Asked.{yes-sized}
 use Rattle.jobs.specs.Reading.{readBy, readTo}
 use Rattle.jobs.specs.Job.{jobRead}
 use denote.Ref.{now}
@@ -6,16 +6,16 @@ use Rattle.jobs.proofs.reading.accept.Statement.{statement}
 use Rattle.jobs.proofs.reading.accept.Tie as tie
 
 code-in-requires : tie.Need-code-in-requires
-code-in-requires c κs = open-sized (now (c .before .before .args .bytes)) (c .before .before .pre)
+code-in-requires c κs = yes-sized (now (c .before .before .args .bytes)) (c .before .before .pre)
 
 intervals-in-requires : tie.Need-intervals-in-requires
-intervals-in-requires c κs = open-sized (now (c .before .before .before .before .args .bytes)) (c .before .before .before .before .pre)
+intervals-in-requires c κs = yes-sized (now (c .before .before .before .before .args .bytes)) (c .before .before .before .before .pre)
 
 memory-in-requires : tie.Need-memory-in-requires
-memory-in-requires c κs = open-sized (now (c .before .before .before .before .before .args .bytes)) (c .before .before .before .before .before .pre)
+memory-in-requires c κs = yes-sized (now (c .before .before .before .before .before .args .bytes)) (c .before .before .before .before .before .pre)
 
 counts-requires : tie.Need-counts-requires
-counts-requires c κs = open-sized (now (c .before .before .before .before .before .before .args .bytes)) (c .before .before .before .before .before .before .pre)
+counts-requires c κs = yes-sized (now (c .before .before .before .before .before .before .args .bytes)) (c .before .before .before .before .before .before .pre)
 
 returns : tie.Need-returns
 unfolding readTo readBy jobRead

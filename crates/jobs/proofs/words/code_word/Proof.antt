@@ -6,18 +6,9 @@ use borrow.Author.Needs.{needs}
 use Rattle.jobs.proofs.words.code_word.Statement.{statement}
 use Rattle.jobs.proofs.words.code_word.Tie as tie
 
-payload-word-requires : tie.Need-payload-word-requires
-payload-word-requires c κs = search needs
-
-cast-result : tie.Need-cast-result
-cast-result c = search needs
-
 returns : tie.Need-returns
 unfolding codeAt
 returns c = ap (λ (w : ℕ). w % 2 ^ 32) (c .before .payload-word .ensures) ∙ even (c .before .before .before .args .j) _ _ (c .if1 .taken)
-
-cast-result-2 : tie.Need-cast-result-2
-cast-result-2 c = search needs
 
 returns-2 : tie.Need-returns-2
 unfolding codeAt
@@ -25,4 +16,4 @@ returns-2 c = ap (λ (w : ℕ). w / 2 ^ 32) (c .before .payload-word .ensures) �
 
 pub code-word-spec : {M : Type 1} → statement M
 code-word-spec =
-    tie.close (tie.spec payload-word-requires cast-result returns cast-result-2 returns-2)
+    tie.close (tie.spec (λ c κs. search needs) (λ c. search needs) returns (λ c. search needs) returns-2)

@@ -8,22 +8,13 @@ use borrow.Author.Needs.{needs}
 use Rattle.lockstep.proofs.tags.mark_loaded.Statement.{statement}
 use Rattle.lockstep.proofs.tags.mark_loaded.Tie as tie
 
-offset-requires : tie.Need-offset-requires
-offset-requires c κs = search needs
-
-load-requires : tie.Need-load-requires
-load-requires c κs = search needs
-
-put-requires : tie.Need-put-requires
-put-requires c κs = search needs
-
 returns : tie.Need-returns
 returns c =
     let s = c .before .before .before .before in
     let a = s .args in
     let e = offset-held (getD (now (a .low)) (a .rs1) 0) (s .fits .imm) (c .before .before .before .offset .ensures) in
-    let v = c .before .before .load .ensures ∙ ap (λ (k : ℕ). getD (now (a .cells)) (k / 8) 0) e in
+    let v = c .before .before .load .ensures ∙ ap (λ (k : ℕ). getD (now (a .tagmem)) (k / 8) 0) e in
     c .put .ensures ∙ (λ j. putIn (a .rd) (v j) (now (a .tags)))
 
 pub mark-loaded-spec : {M : Type 1} → statement M
-mark-loaded-spec = tie.close (tie.spec offset-requires load-requires put-requires returns)
+mark-loaded-spec = tie.close (tie.spec (λ c κs. search needs) (λ c κs. search needs) (λ c κs. search needs) returns)

@@ -4,15 +4,6 @@ use borrow.Author.Needs.{needs}
 use Rattle.lockstep.proofs.together.advance.Statement.{statement}
 use Rattle.lockstep.proofs.together.advance.Tie as tie
 
-mark-requires : tie.Need-mark-requires
-mark-requires c κs = search needs
-
-step-requires : tie.Need-step-requires
-step-requires c κs = search needs
-
-step-requires-2 : tie.Need-step-requires-2
-step-requires-2 c κs = search needs
-
 returns : tie.Need-returns
 returns c =
     let s = c .before .before .before in
@@ -21,4 +12,4 @@ returns c =
     λ j. pair (s .step .ensures j) (c .step2 .ensures j) (m .mark .ensures (a .at .high) (now (a .lowmem)) (now (a .highmem)) j)
 
 pub advance-spec : {M : Type 1} → statement M
-advance-spec = tie.close (tie.spec mark-requires step-requires step-requires-2 returns)
+advance-spec = tie.close (tie.spec (λ c κs. search needs) (λ c κs. search needs) (λ c κs. search needs) returns)

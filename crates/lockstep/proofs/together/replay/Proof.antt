@@ -5,18 +5,6 @@ use borrow.Author.Needs.{needs}
 use Rattle.lockstep.proofs.together.replay.Statement.{statement}
 use Rattle.lockstep.proofs.together.replay.Tie as tie
 
-begin-requires : tie.Need-begin-requires
-begin-requires c κs = search needs
-
-begin-requires-2 : tie.Need-begin-requires-2
-begin-requires-2 c κs = search needs
-
-clear-requires : tie.Need-clear-requires
-clear-requires c κs = search needs
-
-proceed-both-requires : tie.Need-proceed-both-requires
-proceed-both-requires c κs = search needs
-
 returns : tie.Need-returns
 unfolding starting
 returns c =
@@ -30,4 +18,4 @@ returns c =
 pub replay-spec : {M : Type 1} → statement M
 replay-spec =
     tie.close
-    (tie.spec begin-requires begin-requires-2 clear-requires proceed-both-requires returns)
+    (tie.spec (λ c κs. search needs) (λ c κs. search needs) (λ c κs. search needs) (λ c κs. search needs) returns)

@@ -1,10 +1,11 @@
 use native.Mathlib.Nat.{sub-zero}
-use Rattle.printing.proofs.Sheets.{part-turn, part-done}
-use Rattle.printing.specs.Sheet.{sheet, write}
+use Rattle.printing.proofs.Outputs.{part-turn, part-done}
+use Rattle.printing.specs.Output.{output, write}
 use Rattle.printing.specs.Printed.{inputAt, inputs}
 use Rattle.boxes.specs.Boxes.{from}
 use denote.Ref.{now}
-use lib.ListN.{length, drop}
+use lib.ListN.{length}
+use Rattle.blocks.specs.Report.{recordAt}
 use borrow.Author.Needs.{needs}
 use native.Mathlib.Omega.{arith}
 use Prim.Native.Nat.{zero-le, _-_, _≤_}
@@ -14,44 +15,21 @@ use Rattle.printing.proofs.lines.put_inputs.Statement.{statement}
 use Rattle.printing.proofs.lines.put_inputs.Tie as tie
 
 abbrev Inv-loop : tie.InvT-loop
-Inv-loop report base out₀ at count p₀ i₀ t10 out p i = (i ≤ count) × (length out ≡ length out₀) × (write (sheet out p) (flatMap (inputAt (drop base report)) (from i (count - i))) ≡ write (sheet out₀ p₀) (inputs (drop base report)))
+Inv-loop report n k out₀ at count p₀ i₀ t out p i =
+    (i ≤ count) × (length out ≡ length out₀) × (write (output out p) (flatMap (inputAt (recordAt n report k)) (from i (count - i))) ≡ write (output out₀ p₀) (inputs (recordAt n report k)))
 
 abbrev μ-loop : tie.MeasureT-loop
-μ-loop report base out₀ at count p₀ i₀ t10 out p i = count - i
-
-record-word-requires : tie.Need-record-word-requires Inv-loop μ-loop
-record-word-requires c κs = search needs
-
-shown-inputs-requires : tie.Need-shown-inputs-requires Inv-loop μ-loop
-shown-inputs-requires c κs = search needs
+μ-loop report n k out₀ at count p₀ i₀ t out p i = count - i
 
 loop-holds : tie.Need-loop-holds Inv-loop μ-loop
 unfolding inputs
 loop-holds c = (zero-le, refl, rw (sub-zero, c .shown-inputs .ensures, c .before .record-word .ensures))
 
-add-record-word : tie.Need-add-record-word Inv-loop μ-loop
-add-record-word c = omega arith
+input-low-requires : tie.Need-input-low-requires Inv-loop μ-loop
+input-low-requires c κs = (c .before .before .before .before .before .before .pre, omega arith)
 
-record-word-requires-2 : tie.Need-record-word-requires-2 Inv-loop μ-loop
-record-word-requires-2 c κs = (c .before .before .before .before .before .before .pre, omega arith)
-
-add-record-word-2 : tie.Need-add-record-word-2 Inv-loop μ-loop
-add-record-word-2 c = omega arith
-
-record-word-requires-3 : tie.Need-record-word-requires-3 Inv-loop μ-loop
-record-word-requires-3 c κs = (c .before .before .before .before .before .before .before .pre, omega arith)
-
-slice-aggregate-put-range : tie.Need-slice-aggregate-put-range Inv-loop μ-loop
-slice-aggregate-put-range c = search needs
-
-put-range-requires : tie.Need-put-range-requires Inv-loop μ-loop
-put-range-requires c κs = search needs
-
-add-i : tie.Need-add-i Inv-loop μ-loop
-add-i c = omega arith
-
-loop-less : tie.Need-loop-less Inv-loop μ-loop
-loop-less c = omega arith
+input-high-requires : tie.Need-input-high-requires Inv-loop μ-loop
+input-high-requires c κs = (c .before .before .before .before .before .before .before .pre, omega arith)
 
 loop-again : tie.Need-loop-again Inv-loop μ-loop
 unfolding inputAt
@@ -59,8 +37,8 @@ loop-again c =
     let l = c .before .before .before .before .before .before .before .before .loop in
     let a = c .before .before .before .before .before .before .before .before .before .before .before .before .before .args in
     let put = c .before .before .put-range in
-    let bytes = drop (a .base) (now (a .report)) in
-    (omega arith, put .kept .0 ∙ l .inv .1, part-turn (inputAt bytes) (sheet (l .out) (l .p)) (c .before .before .before .before .before .before .before .before .before .shown-inputs .result) (l .i) (omega arith) (rw (← c .before .before .before .before .before .before .record-word2 .ensures, ← c .before .before .before .before .before .record-word3 .ensures) (put .ensures)) ∙ l .inv .2)
+    let bytes = recordAt (a .inputs) (now (a .report)) (a .k) in
+    (omega arith, put .kept .0 ∙ l .inv .1, part-turn (inputAt bytes) (output (l .out) (l .p)) (c .before .before .before .before .before .before .before .before .before .shown-inputs .result) (l .i) (omega arith) (rw (← c .before .before .before .before .before .before .input-low .ensures, ← c .before .before .before .before .before .input-high .ensures) (put .ensures)) ∙ l .inv .2)
 
 same-length : tie.Need-same-length Inv-loop μ-loop
 same-length c = c .before .loop .inv .1
@@ -69,7 +47,7 @@ returns : tie.Need-returns Inv-loop μ-loop
 returns c =
     let l = c .before .loop in
     let a = c .before .before .before .before .before .before .args in
-    part-done (inputAt (drop (a .base) (now (a .report)))) (sheet (l .out) (l .p)) (c .before .before .shown-inputs .result) (l .i) (omega arith) ∙ l .inv .2
+    part-done (inputAt (recordAt (a .inputs) (now (a .report)) (a .k))) (output (l .out) (l .p)) (c .before .before .shown-inputs .result) (l .i) (omega arith) ∙ l .inv .2
 
 pub put-inputs-spec : {M : Type 1} → statement M
 put-inputs-spec =
@@ -77,17 +55,15 @@ put-inputs-spec =
     (tie.spec
     Inv-loop
     μ-loop
-    record-word-requires
-    shown-inputs-requires
+    (λ c κs. search needs)
+    (λ c κs. search needs)
     loop-holds
-    add-record-word
-    record-word-requires-2
-    add-record-word-2
-    record-word-requires-3
-    slice-aggregate-put-range
-    put-range-requires
-    add-i
-    loop-less
+    input-low-requires
+    input-high-requires
+    (λ c. search needs)
+    (λ c κs. search needs)
+    (λ c. omega arith)
+    (λ c. omega arith)
     loop-again
     same-length
     returns)

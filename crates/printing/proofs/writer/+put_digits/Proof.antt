@@ -1,10 +1,10 @@
 -- The proof of the cycle of calls {put_digits}. The measure is the number: its tenth is smaller.
 -- Assumes nothing.
-use mathlib.Core.Path.{_≡_, _∙_}
+use mathlib.Core.Path.{_∙_}
 use native.Mathlib.Omega.{arith}
 use borrow.Author.Needs.{needs}
 use denote.Ref.{now}
-use Rattle.printing.specs.Sheet.{sheet}
+use Rattle.printing.specs.Output.{output}
 use Rattle.printing.proofs.Digits.{last-digit, only-digit}
 use Prim.Native.Nat.{ℕ, _<_}
 use borrow.Fn.Kinds.{In}
@@ -72,7 +72,7 @@ put-digits-returns : (t : ℕ) → put-digits-lts.Need-returns (
 ) (put-digits-at t) put-digits.Post
 put-digits-returns t c =
     let a = c .before .before .before .before .before .before .args in
-    only-digit (sheet (now (a .out)) (a .at)) (a .n) (omega arith) (c .before .before .put-byte .ensures)
+    only-digit (output (now (a .out)) (a .at)) (a .n) (omega arith) (c .before .before .put-byte .ensures)
 
 -- src/writer.rt:37:9
 put-digits-put-digits-requires : (t : ℕ) → put-digits-lts.Need-put-digits-requires (
@@ -128,7 +128,7 @@ put-digits-returns-2 : (t : ℕ) → put-digits-lts.Need-returns-2 (
 ) (put-digits-at t) put-digits.Post
 put-digits-returns-2 t c =
     let a = c .before .before .before .before .before .before .before .before .before .before .args in
-    last-digit (sheet (now (a .out)) (a .at)) (a .n) (omega arith) (omega arith) (c .before .before .before .before .before .before .put-digits .ensures) (c .before .before .put-byte2 .ensures)
+    last-digit (output (now (a .out)) (a .at)) (a .n) (omega arith) (omega arith) (c .before .before .before .before .before .before .put-digits .ensures) (c .before .before .put-byte2 .ensures)
 
 pub +put-digits-spec : {M : Type 1} → statement M
 +put-digits-spec = close μ-put-digits λ t. put-digits-lts.spec (

@@ -6,14 +6,14 @@ use native.Mathlib.Omega.{arith}
 use borrow.Author.Needs.{needs}
 use denote.Ref.{now}
 use lib.ListN.{length, drop}
-use Rattle.printing.specs.Sheet.{sheet, write}
-use Rattle.printing.proofs.Sheets.{text-turn, text-done}
+use Rattle.printing.specs.Output.{output, write}
+use Rattle.printing.proofs.Outputs.{text-turn, text-done}
 use Rattle.printing.proofs.writer.put_text.Statement.{statement}
 use Rattle.printing.proofs.writer.put_text.Tie as tie
 
 abbrev Inv-loop : tie.InvT-loop
 Inv-loop out₀ at text p₀ i₀ out p i =
-    (i ≤ length text) × (length out ≡ length out₀) × (write (sheet out p) (drop i text) ≡ write (sheet out₀ p₀) text)
+    (i ≤ length text) × (length out ≡ length out₀) × (write (output out p) (drop i text) ≡ write (output out₀ p₀) text)
 
 abbrev μ-loop : tie.MeasureT-loop
 μ-loop out₀ at text p₀ i₀ out p i = length text - i
@@ -21,24 +21,12 @@ abbrev μ-loop : tie.MeasureT-loop
 loop-holds : tie.Need-loop-holds Inv-loop μ-loop
 loop-holds c = (zero-le, refl, refl)
 
-shared-slice-read-put-byte : tie.Need-shared-slice-read-put-byte Inv-loop μ-loop
-shared-slice-read-put-byte c = omega arith
-
-put-byte-requires : tie.Need-put-byte-requires Inv-loop μ-loop
-put-byte-requires c κs = search needs
-
-add-i : tie.Need-add-i Inv-loop μ-loop
-add-i c = omega arith
-
-loop-less : tie.Need-loop-less Inv-loop μ-loop
-loop-less c = omega arith
-
 loop-again : tie.Need-loop-again Inv-loop μ-loop
 loop-again c =
     let l = c .before .before .before .before .before .before .loop in
     let a = c .before .before .before .before .before .before .before .before .before .args in
     let put = c .before .before .put-byte in
-    (omega arith, put .kept .0 ∙ l .inv .1, text-turn (sheet (l .out) (l .p)) (now (a .text)) (l .i) (omega arith) (put .ensures) ∙ l .inv .2)
+    (omega arith, put .kept .0 ∙ l .inv .1, text-turn (output (l .out) (l .p)) (now (a .text)) (l .i) (omega arith) (put .ensures) ∙ l .inv .2)
 
 same-length : tie.Need-same-length Inv-loop μ-loop
 same-length c = c .before .loop .inv .1
@@ -46,7 +34,7 @@ same-length c = c .before .loop .inv .1
 returns : tie.Need-returns Inv-loop μ-loop
 returns c =
     let l = c .before .loop in
-    text-done (sheet (l .out) (l .p)) (now (c .before .before .before .before .args .text)) (l .i) (omega arith) ∙ l .inv .2
+    text-done (output (l .out) (l .p)) (now (c .before .before .before .before .args .text)) (l .i) (omega arith) ∙ l .inv .2
 
 pub put-text-spec : {M : Type 1} → statement M
 put-text-spec =
@@ -55,10 +43,10 @@ put-text-spec =
     Inv-loop
     μ-loop
     loop-holds
-    shared-slice-read-put-byte
-    put-byte-requires
-    add-i
-    loop-less
+    (λ c. omega arith)
+    (λ c κs. search needs)
+    (λ c. omega arith)
+    (λ c. omega arith)
     loop-again
     same-length
     returns)

@@ -1,8 +1,8 @@
 use Rattle.straight.proofs.Taking.{goes}
-use Rattle.listing.specs.Group.{classOf}
-use Rattle.listing.specs.Ending.{points, writes}
+use Rattle.listing.specs.Group.{sortingOf, classBy, classOf}
+use Rattle.listing.specs.Ending.{operandPoints, addressPoints, points, writes}
 use Rattle.decide.specs.Corner.{verdict}
-use Rattle.corners.proofs.Uniform.{tagStep}
+use Rattle.corners.specs.Tags.{tagStep}
 use Rattle.lockstep.specs.Together.{tagged, pair}
 use Rattle.riscu.specs.declared.Instruction.the-variants.{Ld}
 use Rattle.riscu.proofs.Signs.{held, held-is}
@@ -12,51 +12,35 @@ use borrow.Author.Needs.{needs}
 use Rattle.straight.proofs.rows.straight_load.Statement.{statement}
 use Rattle.straight.proofs.rows.straight_load.Tie as tie
 
-access-points-requires : tie.Need-access-points-requires
-access-points-requires c κs = search needs
-
-enum-told : tie.Need-enum-told
-enum-told c = search needs
-
-enum-told-2 : tie.Need-enum-told-2
-enum-told-2 c = search needs
-
-returns : tie.Need-returns
-returns c = search needs
-
-one-unless-zero-requires : tie.Need-one-unless-zero-requires
-one-unless-zero-requires c κs = search needs
-
-returns-2 : tie.Need-returns-2
-returns-2 c = search needs
-
-mark-loaded-requires : tie.Need-mark-loaded-requires
-mark-loaded-requires c κs = search needs
-
-ld-requires : tie.Need-ld-requires
-ld-requires c κs = search needs
-
-ld-requires-2 : tie.Need-ld-requires-2
-ld-requires-2 c κs = search needs
-
 returns-3 : tie.Need-returns-3
-unfolding points verdict classOf writes tagStep
+unfolding points addressPoints sortingOf operandPoints verdict classOf classBy writes tagStep
 returns-3 c =
-    let s = c .before .before .before .before .before .before .before .before .before .before .before .before .before .before .before .before .before in
-    let a = s .args in
-    rw (← held-is (a .imm) (s .fits .imm .sfits)) ((goes (Ld (a .rd) (a .rs1) (held (a .imm))) (sym (c .before .before .before .before .before .before .before .before .before .before .before .before .before .before .access-points .ensures) ∙ c .before .before .before .before .before .before .before .before .before .before .before .before .enum-told .given .1) refl (λ left. c .before .before .before .before .before .before .before .before .before .before .before .one-unless-zero .ensures) (c .before .before .before .before .before .before .before .before .before .before .if1 .left), λ lows highs. λ j. pair (c .before .before .before .ld .ensures lows j) (c .ld2 .ensures highs j) (tagged (c .before .before .before .before .before .before .mark-loaded .ensures j) (now (a .cells)))))
+    let at-ld = c .before .before .before in
+    let at-mark-loaded = at-ld .before .before .before in
+    let at-if1 = at-mark-loaded .before .before .before .before in
+    let at-one-unless-zero = at-if1 .before in
+    let at-enum-told = at-one-unless-zero .before in
+    let at-access-points = at-enum-told .before .before in
+    let entry = at-access-points .before .before .before in
+    let a = entry .args in
+    let passes = sym (at-access-points .access-points .ensures) ∙ at-enum-told .enum-told .given .1 in
+    rw (← held-is (a .imm) (entry .fits .imm .sfits)) (
+      goes (Ld (a .rd) (a .rs1) (held (a .imm))) passes refl (λ left. at-one-unless-zero .one-unless-zero .ensures) (at-if1 .if1 .left),
+      λ lows highs. λ j.
+          pair (at-ld .ld .ensures lows j) (c .ld2 .ensures highs j) (tagged (at-mark-loaded .mark-loaded .ensures j) (now (a .tagmem))),
+    )
 
 pub straight-load-spec : {M : Type 1} → statement M
 straight-load-spec =
     tie.close
     (tie.spec
-    access-points-requires
-    enum-told
-    enum-told-2
-    returns
-    one-unless-zero-requires
-    returns-2
-    mark-loaded-requires
-    ld-requires
-    ld-requires-2
+    (λ c κs. search needs)
+    (λ c. search needs)
+    (λ c. search needs)
+    (λ c. search needs)
+    (λ c κs. search needs)
+    (λ c. search needs)
+    (λ c κs. search needs)
+    (λ c κs. search needs)
+    (λ c κs. search needs)
     returns-3)

@@ -1,8 +1,6 @@
 use Rattle.straight.proofs.Taking.{goes}
-use Rattle.listing.specs.Group.{classOf}
-use Rattle.listing.specs.Ending.{points, writes}
-use Rattle.decide.specs.Corner.{verdict}
-use Rattle.corners.proofs.Uniform.{tagStep}
+use Rattle.listing.specs.Ending.{writes}
+use Rattle.corners.specs.Tags.{tagStep}
 use Rattle.lockstep.specs.Together.{tagged, pair}
 use Rattle.riscu.specs.declared.Instruction.the-variants.{Register}
 use mathlib.Core.Path.{sym, _∙_}
@@ -10,63 +8,42 @@ use borrow.Author.Needs.{needs}
 use Rattle.straight.proofs.rows.straight_operation.Statement.{statement}
 use Rattle.straight.proofs.rows.straight_operation.Tie as tie
 
-register-points-requires : tie.Need-register-points-requires
-register-points-requires c κs = search needs
-
-enum-told : tie.Need-enum-told
-enum-told c = search needs
-
-enum-told-2 : tie.Need-enum-told-2
-enum-told-2 c = search needs
-
-returns : tie.Need-returns
-returns c = search needs
-
-operation-class-requires : tie.Need-operation-class-requires
-operation-class-requires c κs = search needs
-
-operation-class-requires-2 : tie.Need-operation-class-requires-2
-operation-class-requires-2 c κs = search needs
-
-returns-2 : tie.Need-returns-2
-returns-2 c = search needs
-
-one-unless-zero-requires : tie.Need-one-unless-zero-requires
-one-unless-zero-requires c κs = search needs
-
-returns-3 : tie.Need-returns-3
-returns-3 c = search needs
-
-mark-result-requires : tie.Need-mark-result-requires
-mark-result-requires c κs = search needs
-
-arithmetic-requires : tie.Need-arithmetic-requires
-arithmetic-requires c κs = search needs
-
-arithmetic-requires-2 : tie.Need-arithmetic-requires-2
-arithmetic-requires-2 c κs = search needs
-
 returns-4 : tie.Need-returns-4
-unfolding points verdict classOf writes tagStep
+unfolding writes tagStep
 returns-4 c =
-    let s = c .before .before .before .before .before .before .before .before .before .before .before .before .before .before .before .before .before .before .before .before in
-    let a = s .args in
-    λ m n v. (goes (Register (a .op) (a .rd) (a .rs1) (a .rs2)) (sym (c .before .before .before .before .before .before .before .before .before .before .before .before .before .before .before .before .before .register-points .ensures) ∙ c .before .before .before .before .before .before .before .before .before .before .before .before .before .before .before .enum-told .given .1) (sym (c .before .before .before .before .before .before .before .before .before .before .before .before .before .operation-class .ensures) ∙ c .before .before .before .before .before .before .before .before .before .before .if1 .left ∙ c .before .before .before .before .before .before .before .before .before .before .before .operation-class2 .ensures) (λ left. c .before .before .before .before .before .before .before .before .before .one-unless-zero .ensures) (c .before .before .before .before .before .before .before .before .if2 .left), λ lows highs. λ j. pair (c .before .before .arithmetic .ensures m lows j) (c .arithmetic2 .ensures n highs j) (tagged (c .before .before .before .before .mark-result .ensures j) v))
+    let at-arithmetic = c .before .before in
+    let at-mark-result = at-arithmetic .before .before in
+    let at-if2 = at-mark-result .before .before .before .before in
+    let at-one-unless-zero = at-if2 .before in
+    let at-if1 = at-one-unless-zero .before in
+    let at-operation-class2 = at-if1 .before in
+    let at-operation-class = at-operation-class2 .before .before in
+    let at-enum-told = at-operation-class .before .before in
+    let at-register-points = at-enum-told .before .before in
+    let entry = at-register-points .before .before .before in
+    let a = entry .args in
+    let passes = sym (at-register-points .register-points .ensures) ∙ at-enum-told .enum-told .given .1 in
+    let same = sym (at-operation-class .operation-class .ensures) ∙ at-if1 .if1 .left ∙ at-operation-class2 .operation-class2 .ensures in
+    λ m n v. (
+      goes (Register (a .op) (a .rd) (a .rs1) (a .rs2)) passes same (λ left. at-one-unless-zero .one-unless-zero .ensures) (at-if2 .if2 .left),
+      λ lows highs. λ j.
+          pair (at-arithmetic .arithmetic .ensures m lows j) (c .arithmetic2 .ensures n highs j) (tagged (at-mark-result .mark-result .ensures j) v),
+    )
 
 pub straight-operation-spec : {M : Type 1} → statement M
 straight-operation-spec =
     tie.close
     (tie.spec
-    register-points-requires
-    enum-told
-    enum-told-2
-    returns
-    operation-class-requires
-    operation-class-requires-2
-    returns-2
-    one-unless-zero-requires
-    returns-3
-    mark-result-requires
-    arithmetic-requires
-    arithmetic-requires-2
+    (λ c κs. search needs)
+    (λ c. search needs)
+    (λ c. search needs)
+    (λ c. search needs)
+    (λ c κs. search needs)
+    (λ c κs. search needs)
+    (λ c. search needs)
+    (λ c κs. search needs)
+    (λ c. search needs)
+    (λ c κs. search needs)
+    (λ c κs. search needs)
+    (λ c κs. search needs)
     returns-4)

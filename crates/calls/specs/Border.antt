@@ -1,0 +1,43 @@
+-- The answer's numbers at the border; what the questions come to and what is lent, as contracts name it.
+use Prim.Native.Nat.{ℕ}
+use mathlib.Core.Bool.{Bool, true, false}
+use mathlib.Core.Option.{Option, none, some}
+use denote.Ref.{now}
+use lib.ListN.{length}
+use Rattle.riscu.specs.Lent.{LentList}
+use Rattle.calls.specs.Call.{Call, callOf, number, written, more, refusalOf, Left, called}
+use Rattle.calls.specs.declared.Refusal.{Refusal}
+use Rattle.calls.specs.declared.Answer.{Answer}
+use Rattle.calls.specs.declared.Answer.the-variants.{Refused, Page}
+use Rattle.calls.specs.declared.Questioned.{Questioned}
+use Rattle.calls.specs.declared.Questioned.the-variants.{AllYes, No}
+use Rattle.calls.specs.declared.Outcome.{Outcome}
+
+-- no question is answered no, or the first that is
+abbrev pub refusalIn : Questioned → Option Refusal
+refusalIn AllYes = none
+refusalIn (No r) = some r
+
+-- the number of the question that refused, or 0
+abbrev pub refusedBy : Answer → ℕ
+refusedBy (Refused r) = number r
+refusedBy (Page n m) = 0
+
+-- 1 for yes, 0 for no
+abbrev pub yesNumber : Bool → ℕ
+yesNumber true = 1
+yesNumber false = 0
+
+abbrev pub replyOf : Answer → Outcome
+replyOf a = record { refused = refusedBy a; count = written a; more = yesNumber (more a) }
+
+-- the call of what is lent, why it is refused, and what it leaves
+
+abbrev pub callLent : LentList → LentList → ℕ → LentList → ℕ → Call
+callLent code intervals limit report first = callOf (now (code .entry)) (now (intervals .entry)) limit (now (report .entry)) first
+
+abbrev pub refusalOn : LentList → LentList → Call → Option Refusal
+refusalOn memory table c = refusalOf (now (memory .entry)) (length (now (table .entry))) c
+
+abbrev pub calledOn : LentList → LentList → Call → Left
+calledOn memory table c = called (now (memory .entry)) (now (table .entry)) c

@@ -1,0 +1,106 @@
+-- Smooth steps: no choice of the box is stopped (points 2 to 9 of the ending order), and all have one class.
+use mathlib.Core.Path.{_≡_}
+use mathlib.Core.Logic.{_⊎_}
+use mathlib.Core.Option.{Option, none, some}
+use Prim.Native.Nat.{ℕ, _%_, _≤_, _<_}
+use Rattle.boxes.specs.Boxes.{Choice, Box, Inside}
+use Rattle.riscu.specs.Machine.{State, reg, offset, fetch}
+use Rattle.riscu.specs.declared.Operation.{Operation}
+use Rattle.riscu.specs.declared.Operation.the-variants.{Add, Sub, Mul, Divu, Remu, Sltu}
+use Rattle.riscu.specs.declared.Instruction.{Instruction}
+use Rattle.riscu.specs.declared.Instruction.the-variants.{Lui, Addi, Register, Ld, Sd, Beq, Jal, Jalr, Ecall}
+use Rattle.riscu.specs.declared.Decoded.the-variants.{Row}
+use Rattle.listing.specs.Group.{Job, after, sortingOf, operand, classOf}
+use Rattle.listing.specs.Ending.{lastAddress}
+use Rattle.listing.specs.declared.Sorting.{Sorting}
+use Rattle.listing.specs.declared.Sorting.the-variants.{Operates, Compares, Nothing}
+
+-- every choice of the box gives the same
+abbrev pub Same : {A : Type 0} → Box → (Choice → A) → Type 0
+Same b f = (c d : Choice) → Inside c b → Inside d b → f c ≡ f d
+
+-- the second operand is the same for every choice, or the first is, where the operation allows it
+abbrev pub OneSame : Type 0 → Box → (Choice → ℕ) → (Choice → ℕ) → Type 0
+OneSame E b f g = Same b g ⊎ (E × Same b f)
+
+-- the operations whose second operand may be the open one: a divisor may not
+abbrev pub EitherOpen : Operation → Type 0
+EitherOpen Add = Unit {0}
+EitherOpen Sub = Unit {0}
+EitherOpen Mul = Unit {0}
+EitherOpen Divu = ⊥
+EitherOpen Remu = ⊥
+EitherOpen Sltu = Unit {0}
+
+abbrev pub DataAddress : ℕ → Type 0
+DataAddress a = (a % 8 ≡ 0) × (a ≤ lastAddress)
+
+-- the operation has a result: a divisor is not 0
+abbrev pub Defined : Operation → ℕ → Type 0
+Defined Add b = Unit {0}
+Defined Sub b = Unit {0}
+Defined Mul b = Unit {0}
+Defined Divu b = 0 < b
+Defined Remu b = 0 < b
+Defined Sltu b = Unit {0}
+
+-- points 5, 6 and 9 do not stop the plain machine
+abbrev pub Reaches : Instruction → State → Type 0
+Reaches (Lui rd imm) s = Unit {0}
+Reaches (Addi rd rs1 imm) s = Unit {0}
+Reaches (Register op rd rs1 rs2) s = Unit {0}
+Reaches (Ld rd rs1 imm) s = DataAddress (offset rs1 imm s)
+Reaches (Sd rs1 rs2 imm) s = DataAddress (offset rs1 imm s)
+Reaches (Beq rs1 rs2 imm) s = Unit {0}
+Reaches (Jal rd imm) s = Unit {0}
+Reaches (Jalr rd rs1 imm) s = Unit {0}
+Reaches Ecall s = (reg 17 s ≡ 63) × (reg 10 s ≡ 0) × (reg 12 s ≡ 8) × DataAddress (reg 11 s)
+
+-- nor does point 7's divisor 0
+abbrev pub Computes : Sorting → State → Type 0
+Computes (Operates op x y) s = Defined op (operand y (s .registers))
+Computes (Compares x y) s = Unit {0}
+Computes Nothing s = Unit {0}
+
+-- the plain machine completes the instruction
+abbrev pub Completes : Instruction → State → Type 0
+Completes i s = Reaches i s × Computes (sortingOf i) s
+
+-- the register that an address is taken from
+abbrev pub baseOf : Instruction → Option ℕ
+baseOf (Lui rd imm) = none
+baseOf (Addi rd rs1 imm) = none
+baseOf (Register op rd rs1 rs2) = none
+baseOf (Ld rd rs1 imm) = some rs1
+baseOf (Sd rs1 rs2 imm) = some rs1
+baseOf (Beq rs1 rs2 imm) = none
+baseOf (Jal rd imm) = none
+baseOf (Jalr rd rs1 imm) = some rs1
+baseOf Ecall = some 11
+
+module _ (b : Box) (s : Choice → State) where
+  -- point 4
+  abbrev pub BaseSame : Option ℕ → Type 0
+  BaseSame none = Unit {0}
+  BaseSame (some r) = Same b (λ c. reg r (s c))
+
+  -- points 7 and 8, but for the reasons 2, 3 and 5
+  abbrev pub OperandsSettled : Sorting → Type 0
+  OperandsSettled (Operates op x y) = OneSame (EitherOpen op) b (λ c. operand x (s c .registers)) (λ c. operand y (s c .registers))
+  OperandsSettled (Compares x y) = OneSame (Unit {0}) b (λ c. operand x (s c .registers)) (λ c. operand y (s c .registers))
+  OperandsSettled Nothing = Unit {0}
+
+  -- the values that must be fixed are
+  abbrev pub Settled : Instruction → Type 0
+  Settled i = BaseSame (baseOf i) × OperandsSettled (sortingOf i)
+
+-- points 2 to 9 do not apply
+pub record Followed (j : Job) (b : Box) (n : ℕ) (i : Instruction) : Type 0 where
+  pub fetched : (c : Choice) → Inside c b → fetch (j .code) (after j n c .pc) ≡ Row i
+  pub completes : (c : Choice) → Inside c b → Completes i (after j n c)
+  pub settled : Settled b (after j n) i
+
+pub record Smooth (j : Job) (b : Box) (n : ℕ) : Type 0 where
+  pub instruction : Instruction
+  pub followed : Followed j b n instruction
+  pub class : Same b (λ c. classOf instruction (after j n c))

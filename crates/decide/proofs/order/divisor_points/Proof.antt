@@ -1,0 +1,17 @@
+use Rattle.decide.proofs.Verdicts.{stops, goes, passes}
+use mathlib.Core.Path.{sym, _∙_}
+use borrow.Author.Needs.{needs}
+use Rattle.decide.proofs.order.divisor_points.Statement.{statement}
+use Rattle.decide.proofs.order.divisor_points.Tie as tie
+
+returns : tie.Need-returns
+returns c = stops _ (sym (c .before .operand-open .ensures) ∙ c .if1 .taken)
+
+returns-2 : tie.Need-returns-2
+returns-2 c = goes _ _ (sym (c .before .before .before .operand-open .ensures) ∙ c .before .before .if1 .left) (stops _ (sym (c .before .zero-divisor .ensures) ∙ c .if2 .taken))
+
+returns-3 : tie.Need-returns-3
+returns-3 c = goes _ _ (sym (c .before .before .before .operand-open .ensures) ∙ c .before .before .if1 .left) (goes _ _ (sym (c .before .zero-divisor .ensures) ∙ c .if2 .left) passes)
+
+pub divisor-points-spec : {M : Type 1} → statement M
+divisor-points-spec = tie.close (tie.spec (λ c κs. search needs) returns (λ c κs. search needs) returns-2 returns-3)

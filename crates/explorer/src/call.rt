@@ -1,0 +1,31 @@
+// The call.
+use crate::exploring::accepted;
+use calls::Answer;
+use calls::Questioned;
+use calls::questions::ask;
+ghost use Rattle.calls.specs.Call.{left};
+ghost use Rattle.calls.specs.Border.{callLent};
+ghost use Rattle.calls.specs.Engine.{Leaves};
+
+// Explores a job and writes a page of its paths, or refuses the call. Its contract is the contract of a call, for which proofs/Demands
+// has the three demands.
+pub fn explore(
+    code: &[u32],
+    memory: &[u64],
+    intervals: &[u64],
+    limit: u64,
+    table: &mut [u64],
+    report: &mut [u8],
+    first: u64,
+) -> Answer
+    ensures { λ r.
+        let c = callLent code intervals limit report first in
+        let l = left r (now (report .exit)) (now (table .exit)) (now (memory .entry)) in
+        ⌜ Leaves (now (memory .entry)) (now (table .entry)) c l ⌝ }
+{
+    let d = ask(code, memory, intervals, limit, table, report, first);
+    let Questioned::No(r) = d else {
+        return accepted(code, memory, intervals, limit, table, report, first);
+    };
+    Answer::Refused(r)
+}

@@ -1,0 +1,20 @@
+// Document 01's places of the words in a job's header block.
+pub const MARK: usize = 0;
+
+pub const CODE_COUNT: usize = 1;
+
+pub const INPUT_COUNT: usize = 2;
+
+pub const STEP_LIMIT: usize = 3;
+
+pub const FIRST_PATH: usize = 4;
+
+// 5 to 12 lows, 13 to 20 highs.
+pub const LOWS: usize = 5;
+
+pub const HIGHS: usize = 13;
+
+pub const GIVEN_COUNT: usize = 21;
+
+// From here on every word is 0.
+pub const REST: usize = 22;
