@@ -22,7 +22,5 @@ explore-read-spec =
     (λ c. search needs)
     slice-aggregate-explore
     slice-aggregate-explore-2
-    (λ c. search needs)
-    (λ c κs. search needs)
-    (λ c. search needs)
+    (λ c. search needs) (λ c κs. search needs) (λ c. search needs)
     returns)

@@ -48,7 +48,6 @@ line-end-spec =
     loop-holds
     (λ c. omega arith)
     returns
-    (λ c. omega arith)
-    (λ c. omega arith)
+    (λ c. omega arith) (λ c. omega arith)
     loop-again
     returns-2)

@@ -106,8 +106,7 @@ ask-spec =
     returns-4
     returns-5
     returns-6
-    (λ c κs. search needs)
-    (λ c. search needs)
+    (λ c κs. search needs) (λ c. search needs)
     returns-7
     returns-8
     returns-9)

@@ -42,8 +42,7 @@ pub call-points-spec : {M : Type 1} → statement M
 call-points-spec =
     tie.close
     (tie.spec
-    (λ c κs. search needs)
-    (λ c κs. search needs)
+    (λ c κs. search needs) (λ c κs. search needs)
     returns
     (λ c κs. search needs)
     returns-2

@@ -107,8 +107,7 @@ fork-on-spec =
     add-used
     add-used-2
     add-forks
-    (λ c κs. search needs)
-    (λ c κs. search needs)
+    (λ c κs. search needs) (λ c κs. search needs)
     mul-lo
     slice-read-lo
     mul-hi

@@ -69,16 +69,12 @@ accepted-spec =
     tie.close
     (tie.spec
     copied-requires
-    (λ c κs. search needs)
-    (λ c κs. search needs)
+    (λ c κs. search needs) (λ c κs. search needs)
     add-t22
     array-borrow-prefix-lows
     slice-aggregate-explore-box
     array-borrow-prefix-highs
     slice-aggregate-explore-box-2
     explore-box-requires
-    (λ c κs. search needs)
-    (λ c κs. search needs)
-    (λ c. search needs)
-    (λ c. search needs)
+    (λ c κs. search needs) (λ c κs. search needs) (λ c. search needs) (λ c. search needs)
     returns)

@@ -24,8 +24,5 @@ explore-box-spec =
     (tie.spec
     (λ c κs. search needs)
     run-turns-requires
-    (λ c. search needs)
-    (λ c. search needs)
-    (λ c. search needs)
-    (λ c. search needs)
+    (λ c. search needs) (λ c. search needs) (λ c. search needs) (λ c. search needs)
     returns)

@@ -45,11 +45,9 @@ in-order-spec =
     loop-holds
     (λ c. omega arith)
     interval-word-requires
-    (λ c. omega arith)
-    (λ c. omega arith)
+    (λ c. omega arith) (λ c. omega arith)
     interval-word-requires-2
     returns
-    (λ c. omega arith)
-    (λ c. omega arith)
+    (λ c. omega arith) (λ c. omega arith)
     loop-again
     returns-2)

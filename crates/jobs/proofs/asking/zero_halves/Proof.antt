@@ -40,7 +40,6 @@ zero-halves-spec =
     loop-holds
     code-word-requires
     returns
-    (λ c. omega arith)
-    (λ c. omega arith)
+    (λ c. omega arith) (λ c. omega arith)
     loop-again
     returns-2)

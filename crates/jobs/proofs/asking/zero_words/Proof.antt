@@ -40,7 +40,6 @@ zero-words-spec =
     loop-holds
     payload-word-requires
     returns
-    (λ c. omega arith)
-    (λ c. omega arith)
+    (λ c. omega arith) (λ c. omega arith)
     loop-again
     returns-2)

@@ -37,9 +37,6 @@ code-in-spec =
     (λ c κs. c .before .pre .whole)
     loop-holds
     (λ c κs. (c .before .before .before .before .pre .whole, omega arith))
-    (λ c. omega arith)
-    (λ c. omega arith)
-    (λ c. omega arith)
-    (λ c. omega arith)
+    (λ c. omega arith) (λ c. omega arith) (λ c. omega arith) (λ c. omega arith)
     loop-again
     returns)

@@ -42,9 +42,6 @@ intervals-in-spec =
     mul-n
     loop-holds
     (λ c κs. (c .before .before .before .before .pre .whole, omega arith))
-    (λ c. omega arith)
-    (λ c. omega arith)
-    (λ c. omega arith)
-    (λ c. omega arith)
+    (λ c. omega arith) (λ c. omega arith) (λ c. omega arith) (λ c. omega arith)
     loop-again
     returns)

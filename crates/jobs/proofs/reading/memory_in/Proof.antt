@@ -51,9 +51,6 @@ memory-in-spec =
     (λ c κs. c .before .before .before .pre .whole)
     loop-holds
     payload-word-requires
-    (λ c. omega arith)
-    (λ c. omega arith)
-    (λ c. omega arith)
-    (λ c. omega arith)
+    (λ c. omega arith) (λ c. omega arith) (λ c. omega arith) (λ c. omega arith)
     loop-again
     returns)
