@@ -1,4 +1,4 @@
--- What a reader must believe of RISC-U; the last four are working notions.
+-- What a reader must believe of RISC-U; the last four say how the code and its contracts hold it.
 --     Word        machine words, two's complement of any width
 --     Decode      the instruction table, and the fields of a word
 --     Machine     the plain machine
