@@ -21,7 +21,7 @@ pub fn word_at(bytes: &[u8], at: usize) -> u64
 }
 
 // Writes a word as eight bytes from `at` on.
-pub fn put_word(bytes: &mut [u8], at: usize, w: u64)
+pub(crate) fn put_word(bytes: &mut [u8], at: usize, w: u64)
     requires { ⌜ at + wordBytes ≤ length (now bytes) ⌝ }
     ensures { λ _. ⌜ now (bytes .exit) ≡ put (now (bytes .entry)) at (bytesOf wordBytes w) ⌝ }
 {

@@ -34,7 +34,7 @@ fn probe(
 }
 
 // A point strictly between a and b: the hint at first, then points that move away from it by doubling, later the middle.
-pub fn guess(a: u64, b: u64, hint: u64, turn: usize) -> u64
+fn guess(a: u64, b: u64, hint: u64, turn: usize) -> u64
     requires { ⌜ a + 1 < b ⌝ }
     ensures { λ r. ⌜ (a < r) × (r < b) × (7 ≤ turn → (2 * (r - a) ≤ b - a + 1) × (2 * (b - r) ≤ b - a + 1)) ⌝ }
 {
@@ -63,7 +63,7 @@ pub fn guess(a: u64, b: u64, hint: u64, turn: usize) -> u64
 
 // The last value of an input, from lo to below hi, whose class is that of lo, where one above it is not: at most 71 probes, and two
 // where the hint is that value. Registers and scratch are lent to run in, and what is left in them is free.
-pub fn cut(
+pub(crate) fn cut(
     code: &[u32],
     memory: &Memory,
     registers: &mut Registers,

@@ -22,7 +22,7 @@ ghost use Rattle.listing.specs.Group.{sortOf, comparison, operand, classBy, cla
 ghost use Rattle.listing.specs.Ending.{isPower, badAddress};
 ghost use Rattle.decide.specs.Corner.{machine};
 
-pub fn is_power(n: u64) -> bool
+pub(crate) fn is_power(n: u64) -> bool
     ensures { λ r. ⌜ r ≡ isPower n ⌝ }
 {
     let e = words::power_of(n);
@@ -32,7 +32,7 @@ pub fn is_power(n: u64) -> bool
     }
 }
 
-pub fn bad_address(a: u64) -> bool
+pub(crate) fn bad_address(a: u64) -> bool
     ensures { λ r. ⌜ r ≡ badAddress a ⌝ }
 {
     (a % 8 != 0) | (4088 < a)
@@ -119,7 +119,12 @@ pub fn branch_class(registers: &Registers, rs1: usize, rs2: usize) -> u64
 }
 
 // What an operation sorts two operands by.
-pub fn operands_sort(op: Operation, first: Operand, second: Operand, registers: &Registers) -> u64
+pub(crate) fn operands_sort(
+    op: Operation,
+    first: Operand,
+    second: Operand,
+    registers: &Registers,
+) -> u64
     ensures { λ r. ⌜ r ≡ sortOf op (operand first (now (registers .entry))) (operand second (now (registers .entry))) ⌝ }
 {
     let a = operand_value(first, registers);

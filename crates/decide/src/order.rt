@@ -343,7 +343,7 @@ pub fn open_points(low: &Registers, high: &Registers, a: usize, b: usize) -> Ver
 }
 
 // Points 4 to 9.
-pub fn points(i: Instruction, low: &Registers, high: &Registers) -> Verdict
+pub(crate) fn points(i: Instruction, low: &Registers, high: &Registers) -> Verdict
     ensures { λ v. ⌜ v ≡ verdict (points (cornerView (now (low .entry)) (now (high .entry))) i) ⌝ }
 {
     let v = address_points(i, low, high);

@@ -3,7 +3,7 @@
 use mathlib.Core.Path.{_≡_, refl, sym, ap, _∙_}
 use mathlib.Core.Bool.{true}
 use mathlib.Core.List.{List, [], _∷_}
-use mathlib.Core.Option.{none, some}
+use mathlib.Core.Option.{none}
 use Prim.Native.Nat.{ℕ, zero, suc, _+_, _-_, _*_, _/_, _%_, _^_, _≤_, _<_}
 use native.Mathlib.Nat.{zero-add, div-mul-le-self}
 use native.Mathlib.Omega.{arith}
@@ -19,15 +19,15 @@ use Rattle.blocks.specs.Record.{mostInputs, recordBytes}
 use Rattle.calls.specs.Call.{Call, callOf, Below, boxOf, asks, refusalOf, jobOf, replyBy, replyTo, tableBy, left, called}
 use Rattle.calls.specs.declared.Refusal.{Refusal}
 use Rattle.calls.specs.declared.Refusal.the-variants.{Inputs, Limit, Memory, Report, First}
-use Rattle.calls.specs.declared.Answer.the-variants.{Refused, Page}
+use Rattle.calls.specs.declared.Answer.the-variants.{Page}
 use Rattle.demands.proofs.Accepted.{both, accepted-yes, accepted-sound}
 use Rattle.riscu.specs.Limits.{memoryWords}
 use Rattle.calls.specs.Limits.{mostSteps, entryWords, firstEnd}
 use Rattle.decide.specs.declared.Limits.{Limits}
+use Rattle.pages.specs.declared.Window.{Window}
 use Rattle.explorer.specs.Held.{jobIn}
 use Rattle.explorer.specs.Finished.{endsOf, Begins, Finished}
 use Rattle.explorer.specs.declared.Standing.{Standing}
-use Rattle.explorer.specs.declared.Window.{Window}
 
 -- the box of whole pairs, by its lows and highs
 
@@ -148,8 +148,3 @@ module _ (code memory intervals table report : List ℕ) (limit first : ℕ)
       → left (Page (s .paths - first) (s .more)) written (replicate (length table) 0) memory ≡ called memory table call
   unfolding called replyTo replyBy tableBy jobOf
   call-leaves written s f = rw (d, f .count, f .more, f .bytes)
-
-pub refused-leaves : {r : Refusal} (memory table : List ℕ) (c : Call) → refusalOf memory (length table) c ≡ some r
-    → left (Refused r) (c .report) table memory ≡ called memory table c
-unfolding called replyTo replyBy tableBy
-refused-leaves memory table c e = rw e

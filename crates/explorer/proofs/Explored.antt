@@ -6,28 +6,27 @@ use mathlib.Core.List.{List, [], _∷_, _++_, map, append-nil}
 use Prim.Native.Nat.{ℕ, _+_, _-_, _*_, _≤_, _<_, min, max}
 use native.Mathlib.Omega.{arith}
 use native.Mathlib.Decide.{decLt}
-use lib.ListN.{length, getD, take, drop, length-append, length-take, length-drop, length-map, drop-of-length-le}
-use lib.Seq.{take-at, drop-at, drop-drop, drop-append-le}
-use borrow.Author.Tests.{lt-ltb, le-ltb}
+use lib.ListN.{length, take, drop, length-drop, drop-of-length-le}
+use lib.Seq.{drop-append-le}
 use Rattle.boxes.specs.Boxes.{Interval, _⋯_, from}
 use Rattle.boxes.specs.Cuts.{boxIn, cut}
-use Rattle.boxes.proofs.Lists.{length-from}
-use Rattle.boxes.proofs.TwoLists.{length-in}
 use Rattle.riscu.specs.Machine.{reg}
 use Rattle.riscu.specs.declared.Instruction.{Instruction}
 use Rattle.listing.specs.Group.{Job}
 use Rattle.listing.specs.Listing.{Path, pathOf, listing}
 use Rattle.listing.specs.declared.End.{End}
 use Rattle.blocks.specs.Record.{mostInputs, recordBytes, recordOf, records}
-use Rattle.blocks.proofs.Reading.{record-length, records-append}
+use Rattle.blocks.proofs.Reading.{records-append}
 use Rattle.forks.specs.Stack.{Fork}
 use Rattle.decide.specs.declared.Limits.{Limits}
 use Rattle.decide.specs.declared.Decision.the-variants.{Ended, Steps}
 use Rattle.lockstep.specs.Together.{Machines, both, advanced}
+use Rattle.pages.specs.Page.{endedPath, pageWith, filled}
+use Rattle.pages.specs.declared.Window.{Window}
+use Rattle.pages.proofs.Page.{registers-in, ended-length, page-early, page-more, page-past, page-length}
 use Rattle.explorer.specs.Held.{Lists, lists, moved, latest, listed, cornersIn, decisionOn, Held, stepped, dropped, ended, work, GoesOn}
-use Rattle.explorer.specs.Explored.{leasts, greatests, endedPath, pageWith, filled, Stopped, Explored, Going, Turned, halted}
+use Rattle.explorer.specs.Explored.{Stopped, Explored, Going, Turned, halted}
 use Rattle.explorer.specs.declared.Standing.{Standing}
-use Rattle.explorer.specs.declared.Window.{Window}
 use Rattle.explorer.proofs.Straight.{held-straight, work-straight}
 use Rattle.explorer.proofs.Stands.{not-both, work-resting}
 use Rattle.explorer.proofs.Resuming.{held-dropped, work-dropped}
@@ -107,36 +106,6 @@ explored-dropped {j} {m} {w} {x} {report} {s} g r o f k t ls hs b p q =
     })
     (not-both refl))
 
--- the registers of a path, in two lists
-box-map : (f g : ℕ → ℕ) (l : List ℕ) → boxIn (map f l) (map g l) ≡ map (λ n. f n ⋯ g n) l
-unfolding boxIn
-box-map f g [] = refl
-box-map f g (x ∷ l) = ap (λ (r : List Interval). f x ⋯ g x ∷ r) (box-map f g l)
-
--- what two lists share from n on, they share from any later place on
-drop-later : (n m : ℕ) (a b : List ℕ) → n ≤ m → drop n a ≡ drop n b → drop m a ≡ drop m b
-drop-later n m a b l e =
-    let k : m ≡ n + (m - n) = omega arith in
-    rw k (sym (drop-drop (m - n) n a) ∙ ap (drop (m - n)) e ∙ drop-drop (m - n) n b)
-
-pub kept-later : (n : ℕ) (w : Window) (s r : Standing) (a b : List ℕ) → s .paths ≤ r .paths → drop (filled n w s) a ≡ drop (filled n w s) b
-    → drop (filled n w r) a ≡ drop (filled n w r) b
-kept-later n w s r a b l e = drop-later (filled n w s) (filled n w r) a b (omega arith) e
-
--- b bytes put into a list at n
-module _ (n b : ℕ) (l v : List ℕ) (e : length v ≡ b) (h : n + b ≤ length l) where
-  front : length (take n l ++ v) ≡ n + b
-  front = simp (length-append, length-take) (omega arith)
-
-  put-take : take (n + b) (take n l ++ v ++ drop (n + b) l) ≡ take n l ++ v
-  put-take = take-at (take n l ++ v) (drop (n + b) l) (n + b) front
-
-  put-drop : drop (n + b) (take n l ++ v ++ drop (n + b) l) ≡ drop (n + b) l
-  put-drop = drop-at (take n l ++ v) (drop (n + b) l) (n + b) front
-
-  put-length : length (take n l ++ v ++ drop (n + b) l) ≡ length l
-  put-length = simp (length-append, length-take, length-drop) (omega arith)
-
 -- the group at hand ends
 module _ {j : Job} {m : Limits} {w : Window} {x : Lists} {report : List ℕ} {s : Standing} (g : Going j m w x report s)
     (r : s .running ≡ true) {end : End} (d : decisionOn (j .code) m x s ≡ Ended end) where
@@ -150,7 +119,7 @@ module _ {j : Job} {m : Limits} {w : Window} {x : Lists} {report : List ℕ} {s 
   high = x .machines .high
 
   abbrev path : Path
-  path = endedPath (x .lows) (x .highs) low high s end
+  path = endedPath (x .lows) (x .highs) low high (s .at .low) (s .steps) end
 
   path-is : path ≡ here (e .held) r d
   unfolding pathOf
@@ -164,7 +133,7 @@ module _ {j : Job} {m : Limits} {w : Window} {x : Lists} {report : List ℕ} {s 
         reads = s .at .low .reads;
         registers = v;
       })
-      (box-map (λ n. min (getD low n 0) (getD high n 0)) (λ n. max (getD low n 0) (getD high n 0)) (from 0 32))
+      (registers-in low high)
       ∙ (λ k. record {
         end = end;
         pc = c k .low .pc;
@@ -174,42 +143,16 @@ module _ {j : Job} {m : Limits} {w : Window} {x : Lists} {report : List ℕ} {s 
         registers = map (λ n. min (reg n (c k .low)) (reg n (c k .high)) ⋯ max (reg n (c k .low)) (reg n (c k .high))) (from 0 32);
       })
 
-  path-length : length (recordOf (s .paths) path) ≡ recordBytes (m .inputs)
-  path-length = record-length (s .paths) path
-      (omega (arith, length-in (x .lows) (x .highs) (e .held .fits .paired), e .held .fits .inputs, e .paged .few))
-      (length-in (leasts low high) (greatests low high) (length-map (from 0 32) _ ∙ sym (length-map (from 0 32) _))
-      ∙ length-map (from 0 32) _ ∙ length-from 32 0)
-
   -- what writing the path asks
-  pub path-fits : ((length (x .lows) ≤ mostInputs) × (length (x .lows) ≡ length (x .highs))) × (filled (length (x .lows)) w s + recordBytes (length (x .lows)) ≤ length report)
+  pub path-fits : ((length (x .lows) ≤ mostInputs) × (length (x .lows) ≡ length (x .highs)))
+      × (filled (length (x .lows)) w (s .paths) + recordBytes (length (x .lows)) ≤ length report)
   path-fits = ((omega (arith, e .held .fits .inputs, e .paged .few), e .held .fits .paired), omega (arith, e .paged .space, e .before r, e .paged .some))
 
+  path-length : length (recordOf (s .paths) path) ≡ recordBytes (m .inputs)
+  path-length = let f = path-fits .0 in ended-length (s .paths) (x .lows) (x .highs) low high (s .at .low) (s .steps) end (f .0) (f .1)
+
   abbrev next : List ℕ
-  next = pageWith w s path report
-
-  -- before the page begins, and in it
-  early : s .paths < w .first → (next ≡ report) × (filled (m .inputs) w (ended s) ≡ 0)
-  early l = (rw (lt-ltb (s .paths) (w .first) l), omega arith)
-
-  late : w .first ≤ s .paths
-      → (next ≡ take (filled (m .inputs) w s) report ++ recordOf (s .paths) path ++ drop (filled (m .inputs) w s + recordBytes (m .inputs)) report)
-      × (filled (m .inputs) w (ended s) ≡ filled (m .inputs) w s + recordBytes (m .inputs))
-  late l = (rw (le-ltb (s .paths) (w .first) l), omega arith)
-
-  past : drop (filled (m .inputs) w (ended s)) next ≡ drop (filled (m .inputs) w (ended s)) report
-  past = elim (decLt (s .paths) (w .first)) [
-    | yes l ↦ ap (drop (filled (m .inputs) w (ended s))) (early l .0)
-    | no l ↦ (
-        let (a, b) = late (omega arith) in
-        rw (a, b) (put-drop (filled (m .inputs) w s) (recordBytes (m .inputs)) report (recordOf (s .paths) path) path-length (path-fits .1)))
-  ]
-
-  same-bytes : length next ≡ length report
-  same-bytes = elim (decLt (s .paths) (w .first)) [
-    | yes l ↦ ap length (early l .0)
-    | no l ↦ ap length (late (omega arith) .0)
-        ∙ put-length (filled (m .inputs) w s) (recordBytes (m .inputs)) report (recordOf (s .paths) path) path-length (path-fits .1)
-  ]
+  next = pageWith w (s .paths) path report
 
   -- the listing's paths from the first wanted on
   more-records : w .first ≤ s .paths
@@ -229,17 +172,18 @@ module _ {j : Job} {m : Limits} {w : Window} {x : Lists} {report : List ℕ} {s 
         ← path-is,
       )
 
-  page : take (filled (m .inputs) w (ended s)) next ≡ records (w .first) (drop (w .first) (listed j (ended s)))
+  page : take (filled (m .inputs) w (s .paths + 1)) next ≡ records (w .first) (drop (w .first) (listed j (ended s)))
   unfolding records
   page = elim (decLt (s .paths) (w .first)) [
     | yes l ↦ (
-        let (a, b) = early l in
+        let b = page-early (m .inputs) w (s .paths) path report path-length (path-fits .1) l .1 in
         let c : length (listed j (ended s)) ≤ w .first = omega (arith, held-ended (e .held) r d .count) in
         rw (b, drop-of-length-le (listed j (ended s)) {i = w .first} c))
     | no l ↦ (
-        let (a, b) = late (omega arith) in
-        rw (a, b, more-records (omega arith), ← (e .written))
-        (put-take (filled (m .inputs) w s) (recordBytes (m .inputs)) report (recordOf (s .paths) path) path-length (path-fits .1)))
+        let k : w .first ≤ s .paths = omega arith in
+        page-more (m .inputs) w (s .paths) path report path-length (path-fits .1) k
+        ∙ ap (λ (v : List ℕ). v ++ recordOf (s .paths) path) (e .written)
+        ∙ sym (more-records k))
   ]
 
   pub explored-ended : Turned j m w x report s x next (ended s)
@@ -247,7 +191,7 @@ module _ {j : Job} {m : Limits} {w : Window} {x : Lists} {report : List ℕ} {s 
     explored = record {
       held = held-ended (e .held) r d;
       paged = record {
-        space = omega (arith, e .paged .space, same-bytes);
+        space = omega (arith, e .paged .space, page-length (m .inputs) w (s .paths) path report path-length (path-fits .1));
         few = e .paged .few;
         some = e .paged .some;
         end-fits = e .paged .end-fits;
@@ -260,5 +204,5 @@ module _ {j : Job} {m : Limits} {w : Window} {x : Lists} {report : List ℕ} {s 
     };
     less = work-ended (e .held) r d (g .going);
     paths = omega arith;
-    kept = past;
+    kept = page-past (m .inputs) w (s .paths) path report path-length (path-fits .1);
   }

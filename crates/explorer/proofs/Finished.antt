@@ -20,11 +20,12 @@ use Rattle.forks.proofs.Page.{page-ended, page-full}
 use Rattle.decide.specs.declared.Limits.{Limits}
 use Rattle.lockstep.specs.Together.{Machines, both, together, starting}
 use Rattle.lockstep.specs.declared.Corners.{Corners}
+use Rattle.pages.specs.Page.{filled}
+use Rattle.pages.specs.declared.Window.{Window}
 use Rattle.explorer.specs.Held.{Lists, lists, groupOf, listed}
-use Rattle.explorer.specs.Explored.{filled, Explored}
+use Rattle.explorer.specs.Explored.{Explored}
 use Rattle.explorer.specs.Finished.{Begins, Finished, begun}
 use Rattle.explorer.specs.declared.Standing.{Standing}
-use Rattle.explorer.specs.declared.Window.{Window}
 use Rattle.explorer.proofs.Stands.{not-both}
 use Rattle.explorer.proofs.Forking.{replayed-to}
 use Rattle.explorer.proofs.Resuming.{between}
@@ -54,7 +55,7 @@ module _ {j : Job} {m : Limits} {w : Window} {ls hs table report : List ℕ} (b 
       steps-fit = b .steps-fit;
     };
     written =
-        let e : filled (m .inputs) w (begun a) ≡ 0 = omega arith in
+        let e : filled (m .inputs) w 0 ≡ 0 = omega arith in
         rw (e, drop-of-length-le {A = Path} [] {i = w .first} (omega arith));
     within = omega arith;
     before = λ _. omega (arith, b .some, b .end);
@@ -65,7 +66,7 @@ module _ {j : Job} {m : Limits} {w : Window} {ls hs table report : List ℕ} (b 
 module _ {j : Job} {m : Limits} {w : Window} {x : Lists} {report : List ℕ} {s : Standing} (e : Explored j m w x report s)
     (stop : s .going ≡ false)
     (code intervals : List ℕ) (lent : List ℕ) (size : length report ≡ length lent) (end : w .end ≡ w .first + length lent / recordBytes (m .inputs))
-    (rest : drop (filled (m .inputs) w s) report ≡ drop (filled (m .inputs) w s) lent) where
+    (rest : drop (filled (m .inputs) w (s .paths)) report ≡ drop (filled (m .inputs) w (s .paths)) lent) where
   abbrev call : Call
   call = callOf code intervals (m .steps) lent (w .first)
 
@@ -97,7 +98,7 @@ module _ {j : Job} {m : Limits} {w : Window} {x : Lists} {report : List ℕ} {s 
         count = n ∙ sym (ap length p);
         more = q ∙ rw p;
         bytes =
-            sym (take-append-drop (filled (m .inputs) w s) report)
+            sym (take-append-drop (filled (m .inputs) w (s .paths)) report)
             ∙ (λ k. e .written k ++ rest k)
             ∙ rw (p, n);
       }

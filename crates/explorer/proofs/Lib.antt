@@ -1,4 +1,4 @@
--- The laws that make one turn of the engine of each turn of the code, and the demands of a call.
+-- The laws that make one turn of the engine of each turn of the code.
 --     Stands      what the lists and numbers of an exploration under way give
 --     Straight    a turn that goes straight on
 --     Forking     a turn that forks
@@ -8,7 +8,6 @@
 --     StraightOn  straight steps one after another
 --     Finished    the exploration of a call from its first group to its page
 --     Accepting   a call that passed the questions
---     Demands     the three demands, from the contract of `explore` alone
 pub mod Stands
 pub mod Straight
 pub mod Forking
@@ -18,4 +17,3 @@ pub mod Explored
 pub mod StraightOn
 pub mod Finished
 pub mod Accepting
-pub mod Demands

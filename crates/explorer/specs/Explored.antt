@@ -1,43 +1,18 @@
 -- An exploration under way: the engine's state, and what of the page is written.
 use mathlib.Core.Path.{_≡_}
 use mathlib.Core.Logic.{_⊎_}
-use mathlib.Core.Bool.{Bool, true, false, cond}
-use mathlib.Core.List.{List, map}
-use Prim.Native.Nat.{ℕ, _-_, _*_, _^_, _≤_, _<_, min, max}
-use lib.Dec.{ltb}
-use lib.ListN.{length, getD, take, drop}
-use Rattle.boxes.specs.Boxes.{from}
+use mathlib.Core.Bool.{Bool, true, false}
+use mathlib.Core.List.{List}
+use Prim.Native.Nat.{ℕ, _-_, _*_, _^_, _≤_, _<_}
+use lib.ListN.{length, take, drop}
 use Rattle.listing.specs.Group.{Job}
-use Rattle.listing.specs.Listing.{Path}
-use Rattle.listing.specs.declared.End.{End}
 use Rattle.blocks.specs.Record.{mostInputs, recordBytes, records}
-use Rattle.blocks.specs.Writing.{pathIn, withPath}
 use Rattle.decide.specs.declared.Limits.{Limits}
 use Rattle.lockstep.specs.Together.{Machines}
+use Rattle.pages.specs.Page.{filled}
+use Rattle.pages.specs.declared.Window.{Window}
 use Rattle.explorer.specs.Held.{Lists, lists, latest, listed, Held, work}
 use Rattle.explorer.specs.declared.Standing.{Standing}
-use Rattle.explorer.specs.declared.Window.{Window}
-
--- the least and the greatest that each register has at the two corners
-abbrev pub leasts : List ℕ → List ℕ → List ℕ
-leasts l h = map (λ r. min (getD l r 0) (getD h r 0)) (from 0 32)
-
-abbrev pub greatests : List ℕ → List ℕ → List ℕ
-greatests l h = map (λ r. max (getD l r 0) (getD h r 0)) (from 0 32)
-
--- the path that ends where the lists and numbers stand
-abbrev pub endedPath : List ℕ → List ℕ → List ℕ → List ℕ → Standing → End → Path
-endedPath ls hs l h s e =
-    pathIn (record { number = s .paths; end = e; pc = s .at .low .pc; steps = s .steps; reads = s .at .low .reads })
-    ls hs (leasts l h) (greatests l h)
-
--- the bytes of a page that are written, where paths have n inputs
-abbrev pub filled : ℕ → Window → Standing → ℕ
-filled n w s = recordBytes n * (s .paths - w .first)
-
--- the report with a path's record in its place, where the page begins at or before it
-abbrev pub pageWith : Window → Standing → Path → List ℕ → List ℕ
-pageWith w s p report = cond (ltb (s .paths) (w .first)) report (withPath report (filled (length (p .box)) w s) (s .paths) p)
 
 -- it stops between two groups: with no fork left, or where the page is full and something of a fork is left
 abbrev pub Stopped : Window → Lists → Standing → Type 0
@@ -56,7 +31,7 @@ pub record Paged (m : Limits) (w : Window) (report : List ℕ) : Type 0 where
 pub record Explored (j : Job) (m : Limits) (w : Window) (x : Lists) (report : List ℕ) (s : Standing) : Type 0 where
   pub held : Held j m (listed j s) x s
   pub paged : Paged m w report
-  pub written : take (filled (m .inputs) w s) report ≡ records (w .first) (drop (w .first) (listed j s))
+  pub written : take (filled (m .inputs) w (s .paths)) report ≡ records (w .first) (drop (w .first) (listed j s))
   pub within : s .paths ≤ w .end
   pub before : s .running ≡ true → s .paths < w .end
   pub stopped : s .going ≡ false → Stopped w x s
@@ -72,7 +47,7 @@ pub record Turned (j : Job) (m : Limits) (w : Window) (x : Lists) (lent : List �
   pub explored : Explored j m w y report r
   pub less : work j y r < work j x s
   pub paths : s .paths ≤ r .paths
-  pub kept : drop (filled (m .inputs) w r) report ≡ drop (filled (m .inputs) w r) lent
+  pub kept : drop (filled (m .inputs) w (r .paths)) report ≡ drop (filled (m .inputs) w (r .paths)) lent
 
 -- a later group: it is explored too, the same paths have ended, and no more is left to do
 pub record Later (j : Job) (m : Limits) (w : Window) (report : List ℕ) (x : Lists) (s : Standing) (y : Lists) (r : Standing) : Type 0 where

@@ -13,9 +13,9 @@ use Rattle.blocks.specs.Record.{mostInputs, recordBytes, records}
 use Rattle.calls.specs.Call.{Call, inputsOf, page}
 use Rattle.decide.specs.declared.Limits.{Limits}
 use Rattle.lockstep.specs.declared.Corners.{Corners}
+use Rattle.pages.specs.declared.Window.{Window}
 use Rattle.explorer.specs.Held.{Fits, standing}
 use Rattle.explorer.specs.declared.Standing.{Standing}
-use Rattle.explorer.specs.declared.Window.{Window}
 
 -- the lows or the highs of the intervals, and 0 past the last
 abbrev pub endsOf : ℕ → List ℕ → List ℕ

@@ -22,7 +22,7 @@ use riscu::plain::fetch;
 ghost use Rattle.explorer.specs.Held.{jobAt, jobBefore, listsAt, listsBefore, listsAfter, AtFork, AtRest, GoesOn, Takeable, TakenUp};
 
 // Cuts the box at the fork, notes the rest in the table, and goes on below the cut.
-pub fn fork_on(
+pub(crate) fn fork_on(
     code: &[u32],
     memory: &Memory,
     intervals: &[u64],
@@ -160,7 +160,7 @@ fn take_rest(
 }
 
 // Takes up the rest of the latest fork: both corners are replayed to the fork, so that nothing of the path before is left.
-pub fn resume(
+pub(crate) fn resume(
     code: &[u32],
     memory: &Memory,
     intervals: &[u64],

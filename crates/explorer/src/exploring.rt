@@ -1,6 +1,5 @@
 // The exploration of an accepted call.
 use crate::Standing;
-use crate::Window;
 use crate::turns::run_turns;
 use blocks::MOST_INPUTS;
 use blocks::PATH_BYTES;
@@ -10,6 +9,7 @@ use calls::questions::ENTRY_WORDS;
 use cuts::entries::clear;
 use decide::Limits;
 use lockstep::together::replay;
+use pages::Window;
 use riscu::plain::Machine;
 use riscu::plain::Memory;
 ghost use mathlib.Core.Path.{_≡_};

@@ -1,10 +1,8 @@
-// The exploration of a lent job: the questions, the turns at the two corners of the current box, and the call itself.
+// The exploration of a job that passes the questions: the turns at the two corners of the current box, from the first group to the page.
 // Each turn is a move of document 01's plain listing with the straight steps before it, or takes up the next rest of the latest fork.
-// What a call leaves is one equation with the definition of a call: its answer, every byte of the report, the table and memory.
+// What an accepted call leaves is one equation with the definition of a call.
 mod branching;
-pub mod call;
-mod exploring;
-mod pages;
+pub mod exploring;
 mod running;
 mod turns;
 
@@ -21,10 +19,4 @@ pub struct Standing {
     pub forks: usize,
     pub paths: u64,
     pub at: Corners,
-}
-
-// The numbers of the paths that a page has places for: from the first wanted to below the end.
-pub struct Window {
-    pub first: u64,
-    pub end: u64,
 }

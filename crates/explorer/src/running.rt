@@ -10,7 +10,7 @@ ghost use Rattle.lockstep.specs.Together.{machinesBefore, machinesAfter};
 ghost use Rattle.explorer.specs.Explored.{RunsOn};
 
 // Straight steps one after another. How many it takes is free: the turn that it stands in asks the whole decision next.
-pub fn run_straight(
+pub(crate) fn run_straight(
     code: &[u32],
     limits: Limits,
     low: &mut Registers,

@@ -1,9 +1,7 @@
 // One turn of an exploration, and the turns until it stops.
 use crate::Standing;
-use crate::Window;
 use crate::branching::fork_on;
 use crate::branching::resume;
-use crate::pages::write_path;
 use crate::running::run_straight;
 use cuts::entries::top;
 use cuts::forking::set_interval;
@@ -13,6 +11,8 @@ use decide::Used;
 use decide::group::decide;
 use decide::group::writes;
 use lockstep::together::advance;
+use pages::Window;
+use pages::write_path;
 use riscu::Instruction;
 use riscu::plain::Memory;
 use riscu::plain::Registers;
@@ -22,7 +22,8 @@ ghost use Prim.Native.Nat.{_+_, _<_, _^_};
 ghost use lib.ListN.{drop};
 ghost use Rattle.lockstep.specs.Together.{both, machinesBefore, machinesAfter, advanced};
 ghost use Rattle.explorer.specs.Held.{jobAt, jobBefore, listsAt, listsBefore, listsAfter, stepped};
-ghost use Rattle.explorer.specs.Explored.{filled, Explored, Going, Turned, halted};
+ghost use Rattle.pages.specs.Page.{filled};
+ghost use Rattle.explorer.specs.Explored.{Explored, Going, Turned, halted};
 
 // One instruction further at both corners.
 fn step_on(
@@ -95,7 +96,18 @@ fn group_turn(
     let d = decide(code, limits, used, at.low, low, high);
     match d {
         Decision::Ended(e) => {
-            write_path(report, window, e, lows, highs, low, high, s);
+            write_path(
+                report,
+                window,
+                s.paths,
+                e,
+                s.steps,
+                at.low,
+                lows,
+                highs,
+                low,
+                high,
+            );
             Standing {
                 going: true,
                 running: false,
@@ -247,7 +259,7 @@ fn turn(
 }
 
 // Turns until it stops.
-pub fn run_turns(
+pub(crate) fn run_turns(
     code: &[u32],
     memory: &Memory,
     intervals: &[u64],
@@ -271,7 +283,7 @@ pub fn run_turns(
         let y = listsAfter lows highs table low lowmem high highmem tags tagmem in
         ⌜ Explored (jobBefore code memory intervals limits) limits window y (now (report .exit)) r ⌝ }
     ensures { λ r. ⌜ r .going ≡ false ⌝ }
-    ensures { λ r. ⌜ drop (filled (limits .inputs) window r) (now (report .exit)) ≡ drop (filled (limits .inputs) window r) (now (report .entry)) ⌝ }
+    ensures { λ r. let n = filled (limits .inputs) window (r .paths) in ⌜ drop n (now (report .exit)) ≡ drop n (now (report .entry)) ⌝ }
 {
     let mut s = from;
     while s.going {

@@ -125,7 +125,7 @@ fn zero_halves(bytes: &[u8], j: usize, e: usize) -> bool
 }
 
 // As few blocks as hold the words.
-pub fn blocks_for(words: usize) -> usize
+pub(crate) fn blocks_for(words: usize) -> usize
     requires { ⌜ words < 4096 ⌝ }
     ensures { λ r. ⌜ r ≡ blocksFor words ⌝ }
 {
@@ -160,7 +160,7 @@ fn well_formed(bytes: &[u8]) -> bool
 }
 
 // The first question that is answered no.
-pub fn ask_job(bytes: &[u8]) -> JobQuestioned
+pub(crate) fn ask_job(bytes: &[u8]) -> JobQuestioned
     ensures { λ r. ⌜ jobRefusalIn r ≡ jobRefusalOf (now (bytes .entry)) ⌝ }
 {
     if !whole_blocks(bytes) {

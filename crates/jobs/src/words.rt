@@ -15,7 +15,7 @@ ghost use Rattle.jobs.specs.Reading.{Whole};
 pub const FIRST_CODE: usize = 1;
 
 // Word k of whole blocks; 0 past the end.
-pub fn word(bytes: &[u8], k: usize) -> u64
+pub(crate) fn word(bytes: &[u8], k: usize) -> u64
     requires { ⌜ Whole (now bytes) ⌝ }
     ensures { λ r. ⌜ r ≡ wordAt (now (bytes .entry)) k ⌝ }
 {
@@ -26,7 +26,7 @@ pub fn word(bytes: &[u8], k: usize) -> u64
 }
 
 // Payload word i of the part that begins with a block.
-pub fn payload_word(bytes: &[u8], block: usize, i: usize) -> u64
+pub(crate) fn payload_word(bytes: &[u8], block: usize, i: usize) -> u64
     requires { ⌜ Whole (now bytes) × (block < 4096) × (i < 4096) ⌝ }
     ensures { λ r. ⌜ r ≡ payloadAt (now (bytes .entry)) block i ⌝ }
 {
@@ -37,7 +37,7 @@ pub fn payload_word(bytes: &[u8], block: usize, i: usize) -> u64
 }
 
 // Code word j: the low half first.
-pub fn code_word(bytes: &[u8], j: usize) -> u32
+pub(crate) fn code_word(bytes: &[u8], j: usize) -> u32
     requires { ⌜ Whole (now bytes) × (j < 4096) ⌝ }
     ensures { λ r. ⌜ r ≡ codeAt (now (bytes .entry)) j ⌝ }
 {
@@ -49,7 +49,7 @@ pub fn code_word(bytes: &[u8], j: usize) -> u32
 }
 
 // Interval word j: low, high, low, high.
-pub fn interval_word(bytes: &[u8], j: usize) -> u64
+pub(crate) fn interval_word(bytes: &[u8], j: usize) -> u64
     requires { ⌜ Whole (now bytes) × (j < 4096) ⌝ }
     ensures { λ r. ⌜ r ≡ intervalAt (now (bytes .entry)) j ⌝ }
 {

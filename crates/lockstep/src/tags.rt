@@ -135,7 +135,7 @@ fn mark_read(inputs: &[u64], low: &Registers, tags: &mut Registers, tagmem: &mut
 }
 
 // The tags after an instruction, from the registers before it.
-pub fn mark(
+pub(crate) fn mark(
     i: Instruction,
     inputs: &[u64],
     low: &Registers,

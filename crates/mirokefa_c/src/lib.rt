@@ -3,7 +3,7 @@
 // The archive of this crate, libmirokefa_c.a, is what include/mirokefa.h declares.
 use calls::Outcome;
 use calls::reply;
-use explorer::call::explore;
+use engine::explore;
 use serving::outcome;
 use serving::serve;
 ghost use mathlib.Core.Path.{_≡_};

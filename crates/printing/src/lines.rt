@@ -83,7 +83,13 @@ fn put_line(report: &[u8], inputs: usize, k: usize, out: &mut [u8], at: usize) -
 }
 
 // The lines of the report's first `count` records.
-pub fn put_lines(report: &[u8], inputs: usize, count: usize, out: &mut [u8], at: usize) -> usize
+pub(crate) fn put_lines(
+    report: &[u8],
+    inputs: usize,
+    count: usize,
+    out: &mut [u8],
+    at: usize,
+) -> usize
     requires { ⌜ count * recordBytes inputs ≤ length (now report) ⌝ }
     ensures { λ r. ⌜ Writes out at r (lines inputs count (now (report .entry))) ⌝ }
 {

@@ -15,7 +15,7 @@ fn put_byte(out: &mut [u8], at: usize, b: u8) -> usize
 }
 
 // A text.
-pub fn put_text(out: &mut [u8], at: usize, text: &[u8]) -> usize
+pub(crate) fn put_text(out: &mut [u8], at: usize, text: &[u8]) -> usize
     ensures { λ r. ⌜ Writes out at r (now (text .entry)) ⌝ }
 {
     let mut p = at;
@@ -39,7 +39,7 @@ fn put_digits(out: &mut [u8], at: usize, n: u64) -> usize
 }
 
 // A name and a number.
-pub fn put_field(out: &mut [u8], at: usize, name: &[u8], n: u64) -> usize
+pub(crate) fn put_field(out: &mut [u8], at: usize, name: &[u8], n: u64) -> usize
     ensures { λ r. ⌜ Writes out at r (field (now (name .entry)) n) ⌝ }
 {
     let p = put_text(out, at, name);
@@ -47,7 +47,7 @@ pub fn put_field(out: &mut [u8], at: usize, name: &[u8], n: u64) -> usize
 }
 
 // A name and an interval.
-pub fn put_range(out: &mut [u8], at: usize, name: &[u8], low: u64, high: u64) -> usize
+pub(crate) fn put_range(out: &mut [u8], at: usize, name: &[u8], low: u64, high: u64) -> usize
     ensures { λ r. ⌜ Writes out at r (range (now (name .entry)) low high) ⌝ }
 {
     let p = put_field(out, at, name, low);

@@ -54,7 +54,7 @@ pub fn quotient(a: u64, b: u64) -> u64
     if b == 0 { 0 } else { a / b }
 }
 
-pub fn remainder(a: u64, b: u64) -> u64
+pub(crate) fn remainder(a: u64, b: u64) -> u64
     ensures { λ r. ⌜ r ≡ a % b ⌝ }
 {
     if b == 0 { a } else { a % b }
@@ -68,7 +68,7 @@ pub fn below(a: u64, b: u64) -> u64
 }
 
 // The number that `width` bits hold in two's complement.
-pub fn signed(width: usize, n: usize) -> i64
+pub(crate) fn signed(width: usize, n: usize) -> i64
     requires { ⌜ (1 ≤ width) × (width ≤ 32) × (n < 2 ^ width) ⌝ }
     ensures { λ r. ⌜ r ≡ signed width n ⌝ }
 {

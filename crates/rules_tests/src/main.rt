@@ -18,7 +18,7 @@ use blocks::layout::STEPS;
 use blocks::words::word_at;
 use calls::Outcome;
 use calls::reply;
-use explorer::call::explore;
+use engine::explore;
 
 // One path more than any of these cases has.
 const REPORT: usize = 4 * PATH_BYTES;

@@ -6,7 +6,7 @@ use calls::Answer;
 use calls::Outcome;
 use calls::questions::CODE_WORDS;
 use calls::reply;
-use explorer::call::explore;
+use engine::explore;
 use jobs::Counts;
 use jobs::JobAnswer;
 use jobs::JobRefusal;

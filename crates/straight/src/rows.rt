@@ -308,7 +308,7 @@ fn straight_row(
 }
 
 // The straight step of a word.
-pub fn straight_word(
+pub(crate) fn straight_word(
     word: u32,
     entries: usize,
     low: &mut Registers,

@@ -2,7 +2,7 @@
 // The programs that run a table of tests read it by this crate, and tell by it which lines differ.
 // Every text is read: past its end there is no digit, and a number of no digits is 0.
 ghost use mathlib.Core.Path.{_≡_};
-ghost use Prim.Native.Nat.{_≤_};
+ghost use mathlib.Core.Bool.{cond};
 ghost use lib.ListN.{drop};
 ghost use Rattle.vectors.specs.Text.{digitOf, numberFrom, Ends};
 
@@ -63,7 +63,7 @@ pub fn line_end(text: &[u8], from: usize) -> usize
 
 // How many of this one test differ: 0, or 1 with its line's number printed.
 pub fn differs(agrees: bool, number: u64) -> u64
-    ensures { λ r. ⌜ r ≤ 1 ⌝ }
+    ensures { λ r. ⌜ r ≡ cond agrees 0 1 ⌝ }
 {
     if agrees {
         return 0;

@@ -1,5 +1,6 @@
-use Rattle.explorer.proofs.Explored.{kept-later}
-use Rattle.explorer.specs.Explored.{filled, Explored}
+use Rattle.pages.proofs.Page.{kept-later}
+use Rattle.pages.specs.Page.{filled}
+use Rattle.explorer.specs.Explored.{Explored}
 use Rattle.explorer.specs.Held.{lists, jobIn, work}
 use Rattle.lockstep.specs.Together.{machines}
 use lib.ListN.{length, drop}
@@ -11,7 +12,7 @@ abbrev Inv-loop : tie.InvT-loop
 Inv-loop code memory intervals limits window lows₀ highs₀ table₀ report₀ low₀ lowmem₀ high₀ highmem₀ tags₀ tagmem₀ s₀ lows highs table report low lowmem high highmem tags tagmem s =
     let x = lists lows highs table (machines low lowmem high highmem tags tagmem) in
     Explored (jobIn code memory intervals limits) limits window x report s
-    × (drop (filled (limits .inputs) window s) report ≡ drop (filled (limits .inputs) window s) report₀)
+    × (drop (filled (limits .inputs) window (s .paths)) report ≡ drop (filled (limits .inputs) window (s .paths)) report₀)
     × (length lows ≡ length lows₀) × (length highs ≡ length highs₀) × (length table ≡ length table₀) × (length report ≡ length report₀)
 
 abbrev μ-loop : tie.MeasureT-loop
@@ -39,7 +40,7 @@ loop-again c =
     let l = at-loop .loop in
     let k = t .kept .1 .1 .1 .1 .1 in (
       t .ensures .explored,
-      t .ensures .kept ∙ kept-later (entry .args .limits .inputs) (entry .args .window) (l .s) (t .result) _ _ (t .ensures .paths) (l .inv .1),
+      t .ensures .kept ∙ kept-later (entry .args .limits .inputs) (entry .args .window) (l .s .paths) (t .result .paths) _ _ (t .ensures .paths) (l .inv .1),
       k .0 ∙ l .inv .2,
       k .1 .0 ∙ l .inv .3,
       k .1 .1 .0 ∙ l .inv .4,

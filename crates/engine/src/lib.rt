@@ -1,14 +1,15 @@
-// The call.
-use crate::exploring::accepted;
+// The call: the questions, and the exploration of a job that passes them.
+// What a call leaves is one equation with the definition of a call: its answer, every byte of the report, the table and memory.
+// Nothing is required of a caller; from the contract of `explore` alone proofs/Demands has the three demands.
 use calls::Answer;
 use calls::Questioned;
 use calls::questions::ask;
+use explorer::exploring::accepted;
 ghost use Rattle.calls.specs.Call.{left};
 ghost use Rattle.calls.specs.Border.{callLent};
 ghost use Rattle.calls.specs.Engine.{Leaves};
 
-// Explores a job and writes a page of its paths, or refuses the call. Its contract is the contract of a call, for which proofs/Demands
-// has the three demands.
+// Explores a job and writes a page of its paths, or refuses the call.
 pub fn explore(
     code: &[u32],
     memory: &[u64],
