@@ -10,8 +10,8 @@ use native.Mathlib.Nat.{zero-add}
 use borrow.Author.Tests.{eq-eqb}
 use lib.ListN.{length, getD, drop, length-append, length-drop, length-map, List·getD-append, List·getD-eq-default, getElem?}
 use lib.Seq.{getD-append-add, getD-at, getD-drop, ext-getD, take-at, drop-at, drop-append-add}
-use Rattle.boxes.specs.Boxes.{Interval, _⋯_, at, from, lows, highs}
-use Rattle.boxes.proofs.Lists.{_∈_, length-from, from-at}
+use Rattle.boxes.specs.Boxes.{Interval, _⋯_, at, from, lows, highs, _∈_}
+use Rattle.boxes.proofs.Lists.{length-from, from-at}
 use Rattle.listing.specs.Listing.{Path}
 use Rattle.listing.specs.Numbers.{kindNumber, reasonWord}
 use Rattle.blocks.specs.Block.{blockBytes, payloadWords, check, payload, block, wordAt, agrees}

@@ -1,11 +1,10 @@
 -- Bisection finds where a test turns false.
 -- Assumes nothing.
-use mathlib.Core.Path.{_≡_, refl, sym, ap, _∙_}
+use mathlib.Core.Path.{_≡_, sym, ap, _∙_}
 use mathlib.Core.Bool.{Bool, true, false, true≢false}
-use Prim.Native.Nat.{ℕ, zero, suc, _+_, _-_, _/_, _^_, _≤_, _<_}
+use Prim.Native.Nat.{ℕ, zero, suc, _+_, _/_, _^_, _≤_, _<_}
 use native.Mathlib.Omega.{arith}
 use native.Mathlib.Decide.{ℕ-discrete}
-use lib.Dec.{ltb}
 use Rattle.boxes.specs.Cuts.{bisect}
 use Rattle.boxes.proofs.Lists.{by-test}
 
@@ -31,8 +30,3 @@ bisect-turns (suc n) p lo hi l w t f =
     (λ e.
     let r = bisect-turns n p lo mid (omega arith) (omega arith) t e in
     rw (e, bisect) (record { from-lo = r .from-lo; below-hi = omega arith; true-at = r .true-at; false-next = r .false-next }))
-
--- it computes on numbers of 64 bits
-example : bisect 64 (λ x. ltb x 12345678901234567890) 0 (2 ^ 64 - 1) ≡ 12345678901234567889
-unfolding bisect
-example = refl

@@ -6,8 +6,7 @@ use mathlib.Core.List.{List, [], _∷_, _++_, Memᴰ·append-left, Memᴰ·appen
 use mathlib.Core.List.{List·Memᴰ·append-cases, List·Memᴰ·eq-of-singleton, List·Memᴰ·head as here, List·Memᴰ·tail as there}
 use Prim.Native.Nat.{ℕ}
 use native.Mathlib.Omega.{arith}
-use Rattle.boxes.specs.Boxes.{Choice, Box, Inside, Within}
-use Rattle.boxes.proofs.Lists.{_∈_}
+use Rattle.boxes.specs.Boxes.{Choice, Box, Inside, Within, _∈_}
 use Rattle.boxes.proofs.Places.{Pairwise, pairwise-split}
 use Rattle.boxes.proofs.Choices.{inside-at}
 use Rattle.boxes.proofs.Partition.{Rising, Partition}

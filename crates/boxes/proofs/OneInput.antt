@@ -2,7 +2,7 @@
 -- falls with it, the lowest and the highest choice say all three.
 -- Assumes nothing.
 use mathlib.Core.Path.{_≡_, refl, sym, _∙_}
-use mathlib.Core.Logic.{inl, inr, _↔_, ⊎-elim}
+use mathlib.Core.Logic.{inl, inr, _↔_, _⊎_, ⊎-elim}
 use mathlib.Core.Bool.{true}
 use mathlib.Core.List.{map, Memᴰ·map, Memᴰ·of-map}
 use Prim.Native.Nat.{ℕ, _≤_, min, max}
@@ -10,9 +10,9 @@ use native.Mathlib.Omega.{arith}
 use native.Mathlib.Decide.{decLe}
 use lib.Dec.{eqb}
 use borrow.Author.Tests.{eqb-true, eqb-false}
-use Rattle.boxes.specs.Boxes.{Choice, Box, at, Proper, choices, low, high, fixed, lows, highs, Inside, Within}
+use Rattle.boxes.specs.Boxes.{Choice, Box, at, Proper, choices, low, high, fixed, lows, highs, Inside, Within, _∈_}
 use Rattle.boxes.specs.Cuts.{Along, OneInput, Convex}
-use Rattle.boxes.proofs.Lists.{_∈_, by-test}
+use Rattle.boxes.proofs.Lists.{by-test}
 use Rattle.boxes.proofs.Choices.{mem-choices, choices-first, lows-inside, highs-inside, inside-at}
 use Rattle.boxes.proofs.Extremes.{least-mem, greatest-mem, least-le, le-greatest, least-is, greatest-is, same-eq, eq-same}
 
@@ -96,6 +96,14 @@ module _ {f : Choice → ℕ} {i : ℕ} (b : Box) (p : Proper b) (one : OneInput
       elim (decLe (f (lows b)) (f (highs b))) [
         | yes h ↦ high-is f b (highs b) (highs-inside b p) (λ d j. omega (arith, between d j)) ∙ omega arith
         | no h ↦ high-is f b (lows b) (lows-inside b p) (λ d j. omega (arith, between d j)) ∙ omega arith
+      ]
+
+  -- so the lowest choice gives one of the two, and the highest the other
+  pub at-corners : ((f (lows b) ≡ low f b) × (f (highs b) ≡ high f b)) ⊎ ((f (lows b) ≡ high f b) × (f (highs b) ≡ low f b))
+  at-corners =
+      elim (decLe (f (lows b)) (f (highs b))) [
+        | yes h ↦ inl (omega (arith, low-corner), omega (arith, high-corner))
+        | no h ↦ inr (omega (arith, high-corner), omega (arith, low-corner))
       ]
 
   -- equal at the corners: equal everywhere

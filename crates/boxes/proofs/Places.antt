@@ -14,7 +14,7 @@ use lib.Dec.{eqb, ltb}
 use lib.ListN.{length, getD, set, take, drop, getElem?, length-set, take-append-drop}
 use lib.Seq.{sets, set-out, getD-set-same, getD-set-other, take-all, length-take-le, drop-length}
 use borrow.Author.Tests.{eq-eqb, ne-eqb, lt-ltb, le-ltb}
-use Rattle.boxes.proofs.Lists.{_∈_}
+use Rattle.boxes.specs.Boxes.{_∈_}
 
 module _ {A : Type 0} where
   pub nonempty : {x : A} (l : List A) → x ∈ l → 0 < length l

@@ -2,10 +2,15 @@
 -- value is fixed, and the pieces into which a class sorts the choices. All of it is by listing the choices, so it is to be read
 -- and not to be run: a box may hold more choices than can be listed. `Cuts` has what runs, and the laws say that it agrees.
 use mathlib.Core.Bool.{Bool, true, not, _&&_, cond}
-use mathlib.Core.List.{List, [], _∷_, map, tail, flatMap}
+use mathlib.Core.List.{List, [], _∷_, map, tail, flatMap, List·Memᴰ}
 use Prim.Native.Nat.{ℕ, zero, suc, _-_, _≤_, min, max}
 use lib.Dec.{eqb}
 use lib.ListN.{length, getD}
+
+-- a stands in the list
+infix 50 _∈_
+abbrev pub _∈_ : {A : Type 0} → A → List A → Type 0
+a ∈ l = List·Memᴰ a l
 
 -- A choice gives each input one value. A box gives each input its lowest and its highest value.
 

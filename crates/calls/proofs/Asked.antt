@@ -1,7 +1,9 @@
--- What one more question does to the first no, and two more numbers to the order of the intervals. Assumes nothing.
-use mathlib.Core.Path.{_≡_, refl, sym, _∙_}
+-- The first no of some questions: what one more question does to it, and where it stands. Two more numbers of the intervals in order.
+-- Assumes nothing.
+use mathlib.Core.Path.{_≡_, refl, sym, ap, _∙_}
+use mathlib.Core.Logic.{_↔_, ⊎-elim}
 use mathlib.Core.Bool.{Bool, true, false, not, _&&_}
-use mathlib.Core.List.{List, [], _∷_}
+use mathlib.Core.List.{List, [], _∷_, _++_, List·Memᴰ·not-nil, List·Memᴰ·cases-cons, List·Memᴰ·head as here, List·Memᴰ·tail as there}
 use mathlib.Core.Option.{none, some}
 use Prim.Native.Nat.{ℕ, suc, _+_, _-_, _<_, _≤_}
 use native.Mathlib.Numerals.{add-one}
@@ -10,8 +12,10 @@ use borrow.Author.Tests.{lt-leb, le-leb, not-true, not-false}
 use lib.Dec.{leb}
 use lib.ListN.{length, getD, drop, length-drop}
 use lib.Seq.{drop-cons}
+use Rattle.boxes.specs.Boxes.{_∈_}
 use Rattle.boxes.proofs.Lists.{by-test}
 use Rattle.calls.specs.Call.{boxOf, inOrder, firstNo}
+use Rattle.calls.specs.Refuses.{FirstNo}
 
 -- a yes, a no, and no further question; the code's answer t is the definition's
 module _ {A : Type 0} (answer : A → Bool) where
@@ -37,6 +41,68 @@ module _ {A : Type 0} (answer : A → Bool) where
       by-test (answer r)
       (λ y. (y, rw y at e))
       (λ n. let f : some r ≡ none = rw n at e in let z : _≡_ {A = ℕ} 0 1 = cc in absurd (omega arith))
+
+  no-first : {r : A} → none ≡ some r → ⊥
+  no-first e = let z : _≡_ {A = ℕ} 0 1 = cc in absurd (omega arith)
+
+  -- it is none exactly if every question is answered yes
+  pub all-yes : (rs : List A) → (firstNo answer rs ≡ none) ↔ ((q : A) → q ∈ rs → answer q ≡ true)
+  all-yes rs = (only rs, whenever rs)
+    where
+      only : (rs : List A) → firstNo answer rs ≡ none → (q : A) → q ∈ rs → answer q ≡ true
+      only [] e q m = absurd (List·Memᴰ·not-nil m)
+      only (r ∷ rs) e q m =
+          let (y, f) = passed r rs e in
+          ⊎-elim (λ z. rw z y) (λ n. only rs f q n) (List·Memᴰ·cases-cons m)
+
+      whenever : (rs : List A) → ((q : A) → q ∈ rs → answer q ≡ true) → firstNo answer rs ≡ none
+      whenever [] h = sym passes
+      whenever (r ∷ rs) h = yes-on r rs (h r (here refl)) ∙ whenever rs (λ q m. h q (there m))
+
+  -- and some question exactly if that is the first with the answer no
+  pub first-no : (rs : List A) (r : A) → (firstNo answer rs ≡ some r) ↔ FirstNo answer rs r
+  first-no rs r = (placed rs, λ f. rw (f .place) (stopped (f .before) (f .after) (f .yes-before) (f .no-here)))
+    where
+      placed : (rs : List A) → firstNo answer rs ≡ some r → FirstNo answer rs r
+      placed [] e = absurd (no-first (passes ∙ e))
+      placed (q ∷ rs) e =
+          by-test (answer q)
+          (λ y.
+          let f = placed rs (sym (yes-on q rs y) ∙ e) in
+          record {
+            before = q ∷ f .before;
+            after = f .after;
+            place = ap (λ (l : List A). q ∷ l) (f .place);
+            yes-before = λ p m. ⊎-elim (λ z. rw z y) (λ n. f .yes-before p n) (List·Memᴰ·cases-cons m);
+            no-here = f .no-here;
+          })
+          (λ n.
+          let z : q ≡ r = cc (stops q rs refl (rw n)) in
+          record {
+            before = [];
+            after = rs;
+            place = ap (λ (x : A). x ∷ rs) z;
+            yes-before = λ p m. absurd (List·Memᴰ·not-nil m);
+            no-here = rw z at n;
+          })
+
+      stopped : (before after : List A) → ((q : A) → q ∈ before → answer q ≡ true) → answer r ≡ false
+          → firstNo answer (before ++ r ∷ after) ≡ some r
+      stopped [] after h n = sym (stops r after refl (rw n))
+      stopped (q ∷ before) after h n =
+          yes-on q (before ++ r ∷ after) (h q (here refl)) ∙ stopped before after (λ p m. h p (there m)) n
+
+  -- further questions come after
+  pub first-stays : {r : A} (rs qs : List A) → firstNo answer rs ≡ some r → firstNo answer (rs ++ qs) ≡ some r
+  first-stays [] qs e = absurd (no-first (passes ∙ e))
+  first-stays (q ∷ rs) qs e =
+      by-test (answer q)
+      (λ y. yes-on q (rs ++ qs) y ∙ first-stays rs qs (sym (yes-on q rs y) ∙ e))
+      (λ n. sym (stops q (rs ++ qs) refl (rw n)) ∙ stops q rs refl (rw n) ∙ e)
+
+  pub first-goes : (rs qs : List A) → firstNo answer rs ≡ none → firstNo answer (rs ++ qs) ≡ firstNo answer qs
+  first-goes [] qs e = refl
+  first-goes (q ∷ rs) qs e = let (y, f) = passed q rs e in yes-on q (rs ++ qs) y ∙ first-goes rs qs f
 
 short : (v : List ℕ) → length v < 2 → inOrder (boxOf v) ≡ true
 unfolding inOrder boxOf

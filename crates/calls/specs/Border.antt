@@ -1,11 +1,13 @@
 -- The answer's numbers at the border; what the questions come to and what is lent, as contracts name it.
 use Prim.Native.Nat.{ℕ}
+use mathlib.Core.Path.{_≡_}
+use mathlib.Core.Logic.{_↔_}
 use mathlib.Core.Bool.{Bool, true, false}
 use mathlib.Core.Option.{Option, none, some}
 use denote.Ref.{now}
 use lib.ListN.{length}
 use Rattle.riscu.specs.Lent.{LentList}
-use Rattle.calls.specs.Call.{Call, callOf, number, written, more, refusalOf, Left, called}
+use Rattle.calls.specs.Call.{Call, callOf, number, written, more, isPage, refusalOf, Left, called}
 use Rattle.calls.specs.declared.Refusal.{Refusal}
 use Rattle.calls.specs.declared.Answer.{Answer}
 use Rattle.calls.specs.declared.Answer.the-variants.{Refused, Page}
@@ -30,6 +32,13 @@ yesNumber false = 0
 
 abbrev pub replyOf : Answer → Outcome
 replyOf a = record { refused = refusedBy a; count = written a; more = yesNumber (more a) }
+
+-- the numbers say all of the answer: whether the call was accepted, which question refused it, the count, and whether a path follows
+pub record InNumbers (o : Outcome) (a : Answer) : Type 0 where
+  pub accepted : (o .refused ≡ 0) ↔ (isPage a ≡ true)
+  pub refused : (r : Refusal) → (o .refused ≡ number r) ↔ (a ≡ Refused r)
+  pub count : o .count ≡ written a
+  pub further : o .more ≡ yesNumber (more a)
 
 -- the call of what is lent, why it is refused, and what it leaves
 

@@ -22,6 +22,10 @@ Leaves memory table c l = l ≡ called memory table c
 abbrev pub Meets : Engine → Type 0
 Meets E = (memory table : List ℕ) (c : Call) (l : Left) → Lent memory table c → E memory table c l → Leaves memory table c l
 
+-- and answers every call: one that never answers would meet the contract too
+abbrev pub Answers : Engine → Type 0
+Answers E = (memory table : List ℕ) (c : Call) → Lent memory table c → (l : Left) × E memory table c l
+
 -- a call and what it left
 pub record Exchange : Type 0 where
   pub call : Call

@@ -1,5 +1,6 @@
 -- Demand 2: what a path of the listing says of the plain machine.
 use mathlib.Core.Path.{_≡_}
+use mathlib.Core.Logic.{_⊎_}
 use Prim.Native.Nat.{ℕ, _≤_, _<_}
 use mathlib.Core.Option.{none, some}
 use Rattle.boxes.specs.Boxes.{Choice, Interval, lows, highs, Inside, Within}
@@ -24,6 +25,13 @@ atEnd j p c = after j (p .steps) c
 abbrev pub Reached : Job → Path → (State → ℕ) → ℕ → Type 0
 Reached j p f x = (c : Choice) × Inside c (p .box) × (f (atEnd j p c) ≡ x)
 
+-- at the lowest inputs f stands at one end of the interval, and at the highest inputs at the other
+abbrev pub AtEnds : Job → Path → (State → ℕ) → Interval → Type 0
+AtEnds j p f v =
+    let x = f (atEnd j p (lows (p .box))) in
+    let y = f (atEnd j p (highs (p .box))) in
+    ((x ≡ v .low) × (y ≡ v .high)) ⊎ ((x ≡ v .high) × (y ≡ v .low))
+
 -- One choice runs the path: the plain machine completes its steps, comes to its pc with its inputs read, stops there with its kind
 -- (1 to 6; the others stop the engine alone), and has every register and the exit value inside the reported interval.
 pub record Runs (j : Job) (p : Path) (c : Choice) : Type 0 where
@@ -47,10 +55,13 @@ pub record Faithful (j : Job) (p : Path) : Type 0 where
   -- every choice inside runs the path, all through the same instructions
   pub runs : (c : Choice) → Inside c (p .box) → Runs j p c
   pub instructions : (c d : Choice) → Inside c (p .box) → Inside d (p .box) → (m : ℕ) → m ≤ p .steps → after j m c .pc ≡ after j m d .pc
-  -- both ends of each interval are reached: of the inputs', of the registers', of the exit value's; the lowest inputs are a witness
+  -- both ends of each interval are reached: of the inputs', of the registers', of the exit value's
   pub lowest : Inside (lows (p .box)) (p .box)
   pub highest : Inside (highs (p .box)) (p .box)
   pub registers : (r : ℕ) → r < 32 → Reached j p (reg r) (registerOf p r .low) × Reached j p (reg r) (registerOf p r .high)
   pub exit : p .end ≡ Exit → Reached j p (reg 10) (exitOf p .low) × Reached j p (reg 10) (exitOf p .high)
-  -- the ending order ends the path there, and so
+  -- the lowest inputs are a witness: each register and the exit value stand at one end there, and at the highest inputs at the other
+  pub witness : (r : ℕ) → r < 32 → AtEnds j p (reg r) (registerOf p r)
+  pub exit-witness : p .end ≡ Exit → AtEnds j p (reg 10) (exitOf p)
+  -- the ending order ends the path there, with its end
   pub ends : (c : Choice) → Inside c (p .box) → EndsAs j p (follow j c (p .steps))

@@ -8,9 +8,9 @@ use native.Mathlib.Omega.{arith}
 use lib.Dec.{ltb, leb}
 use lib.ListN.{length, getD, replicate, length-replicate}
 use borrow.Author.Tests.{leb-true, ltb-true}
-use Rattle.boxes.specs.Boxes.{Box, Interval, _⋯_, Proper, highs, from, every}
+use Rattle.boxes.specs.Boxes.{Box, Interval, _⋯_, Proper, highs, from, every, _∈_}
 use Rattle.boxes.specs.Cuts.{bisect, edge, cornerPieces}
-use Rattle.boxes.proofs.Lists.{_∈_, map-eq}
+use Rattle.boxes.proofs.Lists.{map-eq}
 use Rattle.riscu.specs.Word.{size, signed, widen, powerBelow}
 use Rattle.riscu.specs.Decode.{rows, search, decodeOf}
 use Rattle.riscu.specs.Machine.{start, operate, readNext, step, fetch, stepDecoded, run}

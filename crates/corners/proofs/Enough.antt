@@ -8,8 +8,7 @@ use Prim.Native.Nat.{ℕ, zero, suc, _+_, _-_, _*_, _≤_, _<_}
 use native.Mathlib.Nat.{add-mul, one-le-mul}
 use native.Mathlib.Omega.{arith}
 use native.Mathlib.Decide.{decLt}
-use Rattle.boxes.specs.Boxes.{Box, size}
-use Rattle.boxes.proofs.Lists.{_∈_}
+use Rattle.boxes.specs.Boxes.{Box, size, _∈_}
 use Rattle.boxes.proofs.Choices.{size-positive}
 use Rattle.riscu.specs.declared.Decoded.the-variants.{Row}
 use Rattle.listing.specs.Group.{Job, Group, viewOf}

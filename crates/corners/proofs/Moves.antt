@@ -11,8 +11,7 @@ use native.Mathlib.Omega.{arith}
 use native.Mathlib.Decide.{decLt}
 use lib.Dec.{eqb}
 use borrow.Author.Tests.{eqb-false, ltb-false}
-use Rattle.boxes.specs.Boxes.{Box, Proper, lows, highs, Within}
-use Rattle.boxes.proofs.Lists.{_∈_}
+use Rattle.boxes.specs.Boxes.{Box, Proper, lows, highs, Within, _∈_}
 use Rattle.boxes.proofs.Choices.{lows-inside, highs-inside, inside-at}
 use Rattle.boxes.proofs.OneInput.{one-input-convex}
 use Rattle.boxes.proofs.Partition.{Partition, pieces-partition}

@@ -9,18 +9,18 @@ use native.Mathlib.Omega.{arith}
 use lib.Dec.{leb, eqb}
 use lib.ListN.{length}
 use borrow.Author.Tests.{leb-true, eqb-true}
-use Rattle.boxes.specs.Boxes.{Box, Proper, from, lows, highs}
-use Rattle.boxes.proofs.Lists.{_∈_}
+use Rattle.boxes.specs.Boxes.{Box, Proper, from, lows, highs, _∈_}
 use Rattle.boxes.proofs.Choices.{inside-length}
 use Rattle.listing.specs.Group.{Job}
 use Rattle.listing.specs.Listing.{Path, pathOf, listing}
 use Rattle.paths.proofs.Paths.{listing-ended}
 use Rattle.riscu.specs.Limits.{codeWords, memoryWords}
 use Rattle.blocks.specs.Record.{mostInputs}
-use Rattle.calls.specs.Call.{Call, Below, boxOf, inOrder, asks, refusalOf, jobOf}
+use Rattle.calls.specs.Call.{Call, Below, boxOf, inOrder, asks, questions, refusalOf, jobOf}
 use Rattle.calls.specs.declared.Refusal.{Refusal}
 use Rattle.calls.specs.declared.Refusal.the-variants.{Code, Inputs, Order, Memory}
-use Rattle.demands.proofs.Refuses.{Decides, decides}
+use Rattle.calls.proofs.Asked.{all-yes}
+use Rattle.calls.proofs.Numbers.{among-questions}
 use Rattle.demands.proofs.Faithful.{listing-faithful}
 use Rattle.corners.specs.Good.{Sound}
 
@@ -47,7 +47,7 @@ box-length (l ∷ (x ∷ v)) = omega (arith, box-length v)
 
 module _ (memory : List ℕ) (words : ℕ) (c : Call) (e : refusalOf memory words c ≡ none) where
   pub accepted-yes : (q : Refusal) → asks memory words c q ≡ true
-  accepted-yes = subst (Decides (asks memory words c)) e (decides (asks memory words c))
+  accepted-yes q = all-yes (asks memory words c) questions .0 e q (among-questions q)
 
   pub job-inputs : length (jobOf memory words c .box) ≤ mostInputs
   unfolding jobOf asks

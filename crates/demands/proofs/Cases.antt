@@ -10,8 +10,8 @@ use lib.Dec.{leb, ltb}
 use lib.ListN.{length, take, drop, replicate, length-replicate, length-map, length-take, length-drop}
 use lib.Seq.{take-all}
 use borrow.Author.Tests.{leb-true, le-ltb}
-use Rattle.boxes.specs.Boxes.{Box, Interval}
-use Rattle.boxes.proofs.Lists.{_∈_, map-eq}
+use Rattle.boxes.specs.Boxes.{Box, Interval, _∈_}
+use Rattle.boxes.proofs.Lists.{map-eq}
 use Rattle.listing.specs.Listing.{Path, listing}
 use Rattle.corners.proofs.Cases.{line, Case, jobOf as caseJob, jobA, table, cases-right}
 use Rattle.riscu.specs.Limits.{memoryWords}

@@ -7,20 +7,20 @@ use mathlib.Core.Option.{none}
 use Prim.Native.Nat.{ℕ, _≤_}
 use native.Mathlib.Omega.{arith}
 use lib.ListN.{length}
-use Rattle.boxes.proofs.Lists.{_∈_}
+use Rattle.boxes.specs.Boxes.{_∈_}
 use Rattle.listing.specs.Group.{Job}
 use Rattle.corners.proofs.Enough.{none-waits}
 use Rattle.blocks.specs.Record.{mostInputs}
 use Rattle.calls.specs.Call.{Call, Left, isPage, refusalOf, jobOf, replyTo, called}
-use Rattle.calls.specs.Engine.{Engine, Lent, Leaves, Meets, Exchange, History}
-use Rattle.calls.specs.Refuses.{Refuses}
+use Rattle.calls.specs.Engine.{Engine, Lent, Leaves, Meets, Answers, Exchange, History}
+use Rattle.calls.specs.Refuses.{Refuses, Responds}
 use Rattle.calls.specs.Reported.{Reported}
 use Rattle.calls.specs.Together.{Together}
 use Rattle.demands.proofs.Refuses.{refused, accepted, unchanged, page-passes}
 use Rattle.demands.proofs.Accepted.{accepted-sound, job-inputs, path-inputs, path-registers}
 use Rattle.demands.proofs.Complete.{listing-complete}
 use Rattle.demands.proofs.Reported.{reported}
-use Rattle.demands.proofs.Histories.{exchanges, calls, history-is, memory-kept, table-zero, replies, accepted-fair}
+use Rattle.demands.proofs.Histories.{exchanges, calls, history-is, history-made, memory-kept, table-zero, replies, accepted-fair}
 use Rattle.demands.proofs.Joined.{same-job, join, pages-some}
 use Rattle.corners.specs.Good.{Sound}
 
@@ -73,8 +73,12 @@ together memory table cs lent =
 
 -- of what any engine left
 module _ (E : Engine) (meets : Meets E) where
-  pub demand-1 : {memory table : List ℕ} {c : Call} {l : Left} → Lent memory table c → E memory table c l → Refuses memory table c l
-  demand-1 {memory} {table} {c} {l} lent e = rw (meets memory table c l lent e) (refuses memory table c lent)
+  pub demand-1 : Answers E → {memory table : List ℕ} {c : Call} → Lent memory table c → Responds E memory table c
+  demand-1 answers {memory} {table} {c} lent =
+      record {
+        answered = answers memory table c lent;
+        refuses = λ l e. rw (meets memory table c l lent e) (refuses memory table c lent);
+      }
 
   pub demand-2 : {memory table : List ℕ} {c : Call} {l : Left} → Lent memory table c → E memory table c l
       → isPage (l .reply .answer) ≡ true → Reported (jobOf memory (length table) c) c (l .reply)
@@ -89,6 +93,14 @@ module _ (E : Engine) (meets : Meets E) where
       λ c m. let (x, n, e) = Memᴰ·of-map (λ (x : Exchange). x .call) xs m in rw e at (lent x n) in
       subst (Together memory table) (sym (history-is E meets lent h)) (together memory table (calls xs) of-calls)
 
+  -- and each list of calls that are lent has such a history
+  pub demand-3-made : Answers E → {memory table : List ℕ} (cs : List Call) → ((c : Call) → c ∈ cs → Lent memory table c)
+      → (xs : List Exchange) × (calls xs ≡ cs) × History E memory table xs
+  demand-3-made answers cs lent = history-made E meets answers cs lent
+
 -- The contract itself is such an engine.
 pub leaves-meets : Meets Leaves
 leaves-meets memory table c l lent e = e
+
+pub leaves-answers : Answers Leaves
+leaves-answers memory table c lent = (called memory table c, refl)

@@ -6,10 +6,10 @@ use mathlib.Core.Option.{some}
 use Prim.Native.Nat.{ℕ, _<_}
 use native.Mathlib.Nat.{zero-add}
 use native.Mathlib.Omega.{arith}
-use Rattle.boxes.specs.Boxes.{Choice, Interval, _⋯_, Proper, lows, Inside, Within}
-use Rattle.boxes.proofs.Lists.{_∈_, from-at}
+use Rattle.boxes.specs.Boxes.{Choice, Interval, _⋯_, Proper, lows, Inside, Within, _∈_}
+use Rattle.boxes.proofs.Lists.{from-at}
 use Rattle.boxes.proofs.Choices.{lows-inside, highs-inside}
-use Rattle.boxes.proofs.OneInput.{low-le, le-high, low-reached, high-reached}
+use Rattle.boxes.proofs.OneInput.{low-le, le-high, low-reached, high-reached, at-corners}
 use Rattle.riscu.specs.Machine.{reg}
 use Rattle.listing.specs.Group.{Job, Group, after, viewOf}
 use Rattle.listing.specs.Ending.{endOf}
@@ -23,7 +23,7 @@ use Rattle.paths.proofs.Stop.{end-stops, smooth-goes-on}
 use Rattle.paths.proofs.Paths.{listing-divides, listing-ended}
 use Rattle.paths.proofs.Follow.{listing-led, follow-stays}
 use Rattle.blocks.specs.Record.{registerOf, exitOf}
-use Rattle.calls.specs.Faithful.{Between, Reached, Runs, EndsAs, Faithful}
+use Rattle.calls.specs.Faithful.{Between, Reached, AtEnds, Runs, EndsAs, Faithful}
 use Rattle.corners.specs.Good.{Sound, Good}
 
 exit-is : (p : Path) → p .end ≡ Exit → exitOf p ≡ registerOf p 10
@@ -52,6 +52,10 @@ module _ (j : Job) (g : Group) (good : Good j g) (x : End) (d : endOf j g ≡ so
   unfolding pathOf value
   reached r l = rw (register-is r l) (low-reached (value r) (g .box) proper, high-reached (value r) (g .box) proper)
 
+  ends-at : (r : ℕ) → r < 32 → AtEnds j path (reg r) (registerOf path r)
+  unfolding pathOf value
+  ends-at r l = rw (register-is r l) (at-corners (g .box) proper (good-uniform j g good .registers .one r))
+
   runs : (c : Choice) → Inside c (g .box) → Runs j path c
   unfolding pathOf
   runs c m =
@@ -79,6 +83,8 @@ module _ (j : Job) (g : Group) (good : Good j g) (x : End) (d : endOf j g ≡ so
         exit = λ e.
             subst (λ (v : Interval). Reached j path (reg 10) (v .low) × Reached j path (reg 10) (v .high)) (sym (exit-is path e))
             (reached 10 (omega arith));
+        witness = ends-at;
+        exit-witness = λ e. subst (AtEnds j path (reg 10)) (sym (exit-is path e)) (ends-at 10 (omega arith));
         ends = led;
       }
 

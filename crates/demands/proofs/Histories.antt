@@ -7,11 +7,11 @@ use mathlib.Core.List.{List, [], _∷_, map, List·Memᴰ·not-nil, List·Memᴰ
 use mathlib.Core.Option.{Option, none, some}
 use Prim.Native.Nat.{ℕ, _^_}
 use lib.ListN.{length, replicate, length-replicate}
-use Rattle.boxes.specs.Boxes.{keep}
-use Rattle.boxes.proofs.Lists.{_∈_, by-test, keep-mem}
+use Rattle.boxes.specs.Boxes.{keep, _∈_}
+use Rattle.boxes.proofs.Lists.{by-test, keep-mem}
 use Rattle.riscu.proofs.Whole.{words-zero}
 use Rattle.calls.specs.Call.{Call, Left, Below, Typed, isPage, refusalOf, replyBy, replyTo, tableBy, called}
-use Rattle.calls.specs.Engine.{Engine, Lent, Meets, Exchange, History, over, made}
+use Rattle.calls.specs.Engine.{Engine, Lent, Meets, Answers, Exchange, History, over, made}
 use Rattle.calls.specs.Together.{memoryAfter, tableAfter, isAccepted, anyAccepted}
 use Rattle.calls.specs.declared.Refusal.{Refusal}
 use Rattle.demands.proofs.Refuses.{page-passes}
@@ -59,6 +59,16 @@ module _ (E : Engine) (meets : Meets E) where
       history-is (λ y m. rw q (still-lent memory table (x .call) (y .call) (lent y (there m)))) h in
       ap (λ (ys : List Exchange). x ∷ ys) r
       ∙ ap (λ (l : Left). record { call = x .call; left = l } ∷ exchanges (l .memory) (l .table) (calls xs)) q
+
+  -- and there is one for each list of calls that are lent
+  pub history-made : Answers E → {memory table : List ℕ} (cs : List Call) → ((c : Call) → c ∈ cs → Lent memory table c)
+      → (xs : List Exchange) × (calls xs ≡ cs) × History E memory table xs
+  history-made answers [] lent = ([], refl, over)
+  history-made answers {memory} {table} (c ∷ cs) lent =
+      let (l, e) = answers memory table c (lent c (here refl)) in
+      let q : l ≡ called memory table c = meets memory table c l (lent c (here refl)) e in
+      let (xs, f, h) = history-made answers {memory = l .memory} {table = l .table} cs (λ d m. rw q (still-lent memory table c d (lent d (there m)))) in
+      (record { call = c; left = l } ∷ xs, ap (λ (ds : List Call). c ∷ ds) f, made e h)
 
 -- Each call finds the memory of the first, and a table of as many words.
 module _ (memory : List ℕ) where

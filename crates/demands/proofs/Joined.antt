@@ -8,7 +8,7 @@ use lib.Dec.{ltb}
 use lib.ListN.{length, drop, length-take, length-drop}
 use lib.Seq.{take-at, take-all, drop-drop}
 use borrow.Author.Tests.{ltb-false}
-use Rattle.boxes.proofs.Lists.{_∈_}
+use Rattle.boxes.specs.Boxes.{_∈_}
 use Rattle.boxes.proofs.Places.{take-rest, part-mem}
 use Rattle.listing.specs.Group.{Job}
 use Rattle.listing.specs.Listing.{Path, listing}

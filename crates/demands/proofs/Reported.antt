@@ -8,7 +8,7 @@ use native.Mathlib.Omega.{arith}
 use lib.ListN.{length, drop, length-append, length-take, length-drop}
 use lib.Seq.{take-append-le, drop-append-le, drop-at}
 use borrow.Author.Tests.{ltb-true}
-use Rattle.boxes.proofs.Lists.{_∈_}
+use Rattle.boxes.specs.Boxes.{_∈_}
 use Rattle.boxes.proofs.Places.{place-mem, place-exists, place-take, place-drop, part-mem}
 use Rattle.listing.specs.Group.{Job}
 use Rattle.listing.specs.Listing.{Path, listing}

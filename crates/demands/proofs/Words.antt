@@ -6,8 +6,7 @@ use native.Mathlib.Omega.{arith}
 use native.Mathlib.Decide.{decLt}
 use lib.ListN.{length, getD, drop, List·getD-eq-default}
 use lib.Seq.{getD-drop}
-use Rattle.boxes.specs.Boxes.{Choice, Interval, _⋯_, at, lows, highs, Inside}
-use Rattle.boxes.proofs.Lists.{_∈_}
+use Rattle.boxes.specs.Boxes.{Choice, Interval, _⋯_, at, lows, highs, Inside, _∈_}
 use Rattle.boxes.proofs.Choices.{inside-at}
 use Rattle.riscu.specs.Machine.{start}
 use Rattle.riscu.proofs.Counters.{run-pc, run-reads}

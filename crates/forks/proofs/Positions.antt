@@ -9,7 +9,8 @@ use Prim.Native.Nat.{ℕ, zero, suc, _+_, _≤_, _<_}
 use native.Mathlib.Omega.{arith}
 use native.Mathlib.Decide.{ℕ-discrete}
 use lib.ListN.{length, length-append, length-map}
-use Rattle.boxes.proofs.Lists.{_∈_, by-test}
+use Rattle.boxes.specs.Boxes.{_∈_}
+use Rattle.boxes.proofs.Lists.{by-test}
 use Rattle.boxes.proofs.OneInput.{one-input-convex}
 use Rattle.boxes.proofs.Pieces.{edge-exists}
 use Rattle.listing.specs.Group.{Job, Group, viewOf, classOf}

@@ -11,7 +11,7 @@ use Rattle.jobs.specs.Job.{payloadAt, codeAt, intervalAt, codeIn, interv
 use Rattle.jobs.specs.declared.JobRefusal.{JobRefusal}
 
 unfoldable pub header : List ℕ
-header = 1 ∷ 8 ∷ 1 ∷ 100 ∷ 0 ∷ 0 ∷ 0 ∷ 0 ∷ 0 ∷ 0 ∷ 0 ∷ 0 ∷ 0 ∷ 255 ∷ []
+header = 1 ∷ 8 ∷ 1 ∷ 100 ∷ 0 ∷ 0 ∷ 0 ∷ 0 ∷ 0 ∷ 0 ∷ 0 ∷ 0 ∷ 0 ∷ 255 ∷ replicate 8 0
 
 unfoldable pub code : List ℕ
 code = 0x03F00893 ∷ 0x00800613 ∷ 0x00000073 ∷ 0x00003283 ∷ 0x00A00313 ∷ 0x0062B533 ∷ 0x05D00893 ∷ 0x00000073 ∷ []
@@ -24,33 +24,49 @@ words =
     ∷ (0x05D00893 + 0x00000073 * 2 ^ 32)
     ∷ []
 
--- Job A with another word in its header, and with other code words
+-- Job A with one other word in its header, and with two
 unfoldable pub changed : ℕ → ℕ → List ℕ
 changed k v = block (set header k v) ++ block words
+
+unfoldable pub changedTwice : ℕ → ℕ → ℕ → ℕ → List ℕ
+changedTwice k v l w = block (set (set header k v) l w) ++ block words
 
 -- the number that a job is refused with, or 0
 unfoldable pub refused : Option JobRefusal → ℕ
 refused none = 0
 refused (some r) = jobNumber r
 
+unfoldable pub answer : List ℕ → ℕ
+answer bytes = refused (jobRefusalOf bytes)
+
 unfoldable pub answers : List ℕ
 answers =
-    refused (jobRefusalOf (block header ++ block words))
-    ∷ refused (jobRefusalOf (drop 1 (block header ++ block words)))
-    ∷ refused (jobRefusalOf (set (block header ++ block words) 300 1))
-    ∷ refused (jobRefusalOf (changed 1 0))
-    ∷ refused (jobRefusalOf (changed 2 9))
-    ∷ refused (jobRefusalOf (changed 5 256))
-    ∷ refused (jobRefusalOf (changed 3 0))
-    ∷ refused (jobRefusalOf (block (set header 4 (2 ^ 32)) ++ block words))
-    ∷ refused (jobRefusalOf (changed 0 2))
-    ∷ refused (jobRefusalOf (changed 1 7))
-    ∷ refused (jobRefusalOf (changed 6 1))
-    ∷ refused (jobRefusalOf (changed 0 1 ++ block []))
+    answer (changed 0 1)
+    ∷ answer (drop 1 (changed 0 1))
+    ∷ answer (set (changed 0 1) 300 1)
+    ∷ answer (changed 1 0)
+    ∷ answer (changed 2 9)
+    ∷ answer (changed 5 256)
+    ∷ answer (changed 3 0)
+    ∷ answer (changed 21 513)
+    ∷ answer (changed 4 (2 ^ 32))
+    ∷ answer (changed 0 2)
+    ∷ answer (changed 1 7)
+    ∷ answer (changed 6 1)
+    ∷ answer (changed 0 1 ++ block [])
+    -- two noes, of two questions that follow one another
+    ∷ answer (drop 1 (set (changed 0 1) 300 1))
+    ∷ answer (set (changed 1 0) 300 1)
+    ∷ answer (changedTwice 1 0 2 9)
+    ∷ answer (changedTwice 2 9 5 256)
+    ∷ answer (changedTwice 5 256 3 0)
+    ∷ answer (changedTwice 3 0 21 513)
+    ∷ answer (changedTwice 21 513 4 (2 ^ 32))
+    ∷ answer (changedTwice 4 (2 ^ 32) 0 2)
     ∷ []
 
-pub job-a-answers : answers ≡ 0 ∷ 9 ∷ 10 ∷ 1 ∷ 2 ∷ 3 ∷ 4 ∷ 8 ∷ 11 ∷ 11 ∷ 11 ∷ 11 ∷ []
-unfolding answers refused changed header words jobRefusalOf jobAsks headerAsks firstNo wholeBlocks checksAgree each checkFrom bytesOf numberOf block codeFits inputsFit ordered inOrder boxOf intervalsIn intervalAt limitFits memoryFits firstFits wellFormed unusedZero zeroWords zeroHalves payloadAt codeAt from flatMap
+pub job-a-answers : answers ≡ 0 ∷ 9 ∷ 10 ∷ 1 ∷ 2 ∷ 3 ∷ 4 ∷ 6 ∷ 8 ∷ 11 ∷ 11 ∷ 11 ∷ 11 ∷ 9 ∷ 10 ∷ 1 ∷ 2 ∷ 3 ∷ 4 ∷ 6 ∷ 8 ∷ []
+unfolding answers answer refused changed changedTwice header words jobRefusalOf jobAsks headerAsks firstNo wholeBlocks checksAgree each checkFrom bytesOf numberOf block codeFits inputsFit ordered inOrder boxOf intervalsIn intervalAt limitFits memoryFits firstFits wellFormed unusedZero zeroWords zeroHalves payloadAt codeAt from flatMap
 job-a-answers = refl
 
 pub job-a-read : jobRead (block header ++ block words) ≡ record { code = code; intervals = 0 ∷ 255 ∷ []; limit = 100; first = 0; memory = replicate 512 0 }

@@ -6,8 +6,7 @@ use Prim.Native.Nat.{ℕ, zero, suc, _≤_}
 use native.Mathlib.Numerals.{add-one}
 use native.Mathlib.Omega.{arith}
 use native.Mathlib.Decide.{decLe}
-use Rattle.boxes.specs.Boxes.{Choice, Box, Inside}
-use Rattle.boxes.proofs.Lists.{_∈_}
+use Rattle.boxes.specs.Boxes.{Choice, Box, Inside, _∈_}
 use Rattle.boxes.proofs.Partition.{piece-is}
 use Rattle.riscu.specs.declared.Decoded.the-variants.{Row}
 use Rattle.listing.specs.Group.{Job, Group, viewOf}

@@ -9,8 +9,7 @@ use native.Mathlib.Omega.{arith}
 use native.Mathlib.Decide.{ℕ-discrete, decLt}
 use lib.ListN.{length, getD, set, List·getD-eq-default}
 use lib.Seq.{getD-set-same}
-use Rattle.boxes.specs.Boxes.{Choice, Box, Interval, _⋯_, at, lows, highs, Inside, Within}
-use Rattle.boxes.proofs.Lists.{_∈_}
+use Rattle.boxes.specs.Boxes.{Choice, Box, Interval, _⋯_, at, lows, highs, Inside, Within, _∈_}
 use Rattle.boxes.proofs.Places.{Pairwise, pairwise-split}
 use Rattle.boxes.proofs.Choices.{inside-at, inside-length, inside-set, lows-at, highs-at}
 use Rattle.boxes.proofs.OneInput.{one-input-convex}

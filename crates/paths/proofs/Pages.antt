@@ -8,8 +8,7 @@ use Prim.Native.Nat.{ℕ, zero, suc, _+_, _≤_, _<_}
 use native.Mathlib.Omega.{arith}
 use native.Mathlib.Decide.{decLe}
 use lib.ListN.{length, length-append, length-map}
-use Rattle.boxes.specs.Boxes.{lows}
-use Rattle.boxes.proofs.Lists.{_∈_}
+use Rattle.boxes.specs.Boxes.{lows, _∈_}
 use Rattle.boxes.proofs.Places.{nonempty}
 use Rattle.boxes.proofs.Choices.{lows-inside}
 use Rattle.riscu.specs.declared.Decoded.the-variants.{Row}

@@ -4,8 +4,7 @@ use mathlib.Core.Path.{_≡_, refl, ap}
 use mathlib.Core.List.{List, [], _∷_, _++_, append-assoc, append-nil, map, map-append}
 use Prim.Native.Nat.{ℕ}
 use mathlib.Core.Option.{some}
-use Rattle.boxes.specs.Boxes.{Box}
-use Rattle.boxes.proofs.Lists.{_∈_}
+use Rattle.boxes.specs.Boxes.{Box, _∈_}
 use Rattle.boxes.proofs.Divides.{Divides, one-divides, divides-split, partition-divides}
 use Rattle.listing.specs.Group.{Job, Group, viewOf}
 use Rattle.listing.specs.Ending.{endOf}

@@ -9,7 +9,7 @@ use native.Mathlib.Omega.{arith}
 use borrow.Author.Tests.{ltb-true}
 use lib.Dec.{ltb}
 use lib.ListN.{length, drop, length-take}
-use Rattle.boxes.proofs.Lists.{_∈_}
+use Rattle.boxes.specs.Boxes.{_∈_}
 use Rattle.boxes.proofs.Places.{part-mem}
 use Rattle.blocks.specs.Record.{recordBytes}
 use Rattle.blocks.specs.Report.{recordsIn}

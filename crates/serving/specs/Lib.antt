@@ -1,6 +1,6 @@
 -- What a reader must believe of the server's call and of the program.
 --     Served      the call that a job stands for, and what a served call leaves
---     Server      calls of the server as calls of an engine, for the demands
+--     Server      the demands of the server: one claim about a list of its calls
 --     Response    what the program prints
 pub mod Served
 pub mod Server

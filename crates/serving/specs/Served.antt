@@ -1,12 +1,15 @@
 -- The server's call: job blocks in, a report out, with the program's table and questions, and then 7.
 use Prim.Native.Nat.{ℕ, _*_}
+use mathlib.Core.Path.{_≡_}
+use mathlib.Core.Logic.{_↔_}
+use mathlib.Core.Bool.{Bool, true, false}
 use mathlib.Core.List.{List}
 use mathlib.Core.Option.{Option, none, some}
 use denote.Ref.{now}
 use lib.ListN.{take}
 use Rattle.riscu.specs.Lent.{LentList}
 use Rattle.calls.specs.Call.{Call, callOf, Reply, replyTo}
-use Rattle.calls.specs.Border.{replyOf}
+use Rattle.calls.specs.Border.{yesNumber, replyOf}
 use Rattle.calls.specs.declared.Answer.{Answer}
 use Rattle.calls.specs.declared.Answer.the-variants as answer
 use Rattle.calls.specs.declared.Outcome.{Outcome}
@@ -28,6 +31,10 @@ reply a report = record { answer = a; report = report }
 unfoldable pub servedAs : Answer → Served
 servedAs (answer.Refused r) = Refused (job.Call r)
 servedAs (answer.Page n m) = Listed n m
+
+unfoldable pub isListed : Served → Bool
+isListed (Refused r) = false
+isListed (Listed n m) = true
 
 -- what a served call leaves
 pub record ServedLeft : Type 0 where
@@ -51,6 +58,13 @@ served bytes report = servedBy bytes report (jobRefusalOf bytes)
 unfoldable pub outcomeOf : Served → Outcome
 outcomeOf (Refused r) = record { refused = jobNumber r; count = 0; more = 0 }
 outcomeOf (Listed n m) = replyOf (answer.Page n m)
+
+-- the numbers say all of the answer: whether the job was listed, which question refused it, the count, and whether a path follows
+pub record ServedInNumbers (o : Outcome) (a : Served) : Type 0 where
+  pub listed : (o .refused ≡ 0) ↔ (isListed a ≡ true)
+  pub refused : (r : JobRefusal) → (o .refused ≡ jobNumber r) ↔ (a ≡ Refused r)
+  pub page : (n : ℕ) (m : Bool) → a ≡ Listed n m → (o .count ≡ n) × (o .more ≡ yesNumber m)
+  pub no-page : isListed a ≡ false → (o .count ≡ 0) × (o .more ≡ 0)
 
 -- What is lent at the call, for the contracts.
 

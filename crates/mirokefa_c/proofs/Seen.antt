@@ -1,0 +1,45 @@
+-- The number that a caller in C sees: 0 exactly if every question has the answer yes, and a question's exactly if that is the first no.
+-- Assumes nothing.
+use mathlib.Core.Path.{_≡_}
+use mathlib.Core.Logic.{_↔_, Iff·trans}
+use mathlib.Core.Bool.{true}
+use mathlib.Core.List.{List}
+use Prim.Native.Nat.{ℕ}
+use lib.ListN.{length}
+use Rattle.boxes.specs.Boxes.{_∈_}
+use Rattle.calls.specs.Border.{replyOf}
+use Rattle.calls.specs.Call.{Call, number, asks, questions, called}
+use Rattle.calls.specs.Refuses.{FirstNo}
+use Rattle.calls.specs.declared.Answer.{Answer}
+use Rattle.calls.specs.declared.Refusal.{Refusal}
+use Rattle.calls.proofs.Numbers.{reply-numbers}
+use Rattle.demands.proofs.Refuses.{refused, accepted}
+use Rattle.jobs.specs.Job.{jobNumber}
+use Rattle.jobs.specs.declared.JobRefusal.{JobRefusal}
+use Rattle.serving.specs.Served.{served, outcomeOf}
+use Rattle.serving.specs.Server.{serverQuestions, serverAsks}
+use Rattle.serving.specs.declared.Served.{Served}
+use Rattle.serving.proofs.Demands.{server-refused, server-listed}
+use Rattle.serving.proofs.Numbers.{outcome-numbers}
+
+-- of `mirokefa_explore`
+module _ (memory table : List ℕ) (c : Call) where
+  abbrev answer : Answer
+  answer = called memory table c .reply .answer
+
+  pub explore-accepted : (replyOf answer .refused ≡ 0) ↔ ((q : Refusal) → asks memory (length table) c q ≡ true)
+  explore-accepted = Iff·trans (reply-numbers answer .accepted) (accepted memory table c)
+
+  pub explore-refused : (r : Refusal) → (replyOf answer .refused ≡ number r) ↔ FirstNo (asks memory (length table) c) questions r
+  explore-refused r = Iff·trans (reply-numbers answer .refused r) (refused memory table c r)
+
+-- of `mirokefa_serve`
+module _ (bytes report : List ℕ) where
+  abbrev answered : Served
+  answered = served bytes report .answer
+
+  pub serve-listed : (outcomeOf answered .refused ≡ 0) ↔ ((q : JobRefusal) → q ∈ serverQuestions → serverAsks bytes report q ≡ true)
+  serve-listed = Iff·trans (outcome-numbers answered .listed) (server-listed bytes report)
+
+  pub serve-refused : (r : JobRefusal) → (outcomeOf answered .refused ≡ jobNumber r) ↔ FirstNo (serverAsks bytes report) serverQuestions r
+  serve-refused r = Iff·trans (outcome-numbers answered .refused r) (server-refused bytes report r)
