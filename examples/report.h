@@ -1,4 +1,4 @@
-/* Reads the paths of a report, and prints one as document 01 does. */
+/* Reads the words and the checks of blocks, and prints a path of a report as document 01 does. */
 
 #ifndef REPORT_H
 #define REPORT_H
@@ -8,13 +8,22 @@
 
 #include "mirokefa.h"
 
-/* A word of a path's blocks; byte by byte, so that the host may have any byte order. */
-static inline uint64_t word(const uint8_t *path, size_t place)
+/* A word of blocks; byte by byte, so that the host may have any byte order. */
+static inline uint64_t word(const uint8_t *blocks, size_t place)
 {
     uint64_t value = 0;
     for (size_t byte = 8; byte-- > 0;)
-        value = value << 8 | path[8 * place + byte];
+        value = value << 8 | blocks[8 * place + byte];
     return value;
+}
+
+/* What the check of a block has to be. */
+static inline uint64_t check_of(const uint8_t *block)
+{
+    uint64_t sum = 1;
+    for (size_t place = 0; place < MIROKEFA_BLOCK_CHECK; place++)
+        sum = (sum << 1 | sum >> 63) + word(block, place);
+    return sum;
 }
 
 static inline void print_path(const uint8_t *path)

@@ -12,7 +12,7 @@ enum {
     MEMORY_WORDS = MIROKEFA_MEMORY_WORDS,
     TABLE_WORDS = MIROKEFA_USUAL_TABLE_WORDS,
     PATH_BYTES = MIROKEFA_PATH_BYTES(JOB_A_INPUTS),
-    BLOCK_WORDS = MIROKEFA_BLOCK_WORDS,
+    BLOCK_BYTES = MIROKEFA_BLOCK_BYTES,
     PAGE_PATHS = MIROKEFA_USUAL_PAGE_PATHS,
     FILL = 0xA5
 };
@@ -89,12 +89,9 @@ static bool answers(struct mirokefa_outcome reply, uint64_t refused, uint64_t co
     return reply.refused == refused && reply.count == count && reply.more == more;
 }
 
-static bool block_checks(const uint8_t *path, size_t first_word)
+static bool checks(const uint8_t *block)
 {
-    uint64_t sum = 1;
-    for (size_t k = 0; k < MIROKEFA_BLOCK_CHECK; k++)
-        sum = (sum << 1 | sum >> 63) + word(path, first_word + k);
-    return sum == word(path, first_word + MIROKEFA_BLOCK_CHECK);
+    return check_of(block) == word(block, MIROKEFA_BLOCK_CHECK);
 }
 
 static bool ends(uint64_t kind, uint64_t pc)
@@ -111,7 +108,7 @@ static void print_whole_listing(void)
     printf("paths %" PRIu64 " more %" PRIu64 "\n", reply.count, reply.more);
     for (size_t k = 0; k < reply.count; k++) {
         const uint8_t *path = report + k * PATH_BYTES;
-        require(block_checks(path, 0) && block_checks(path, BLOCK_WORDS), "a block's check is wrong");
+        require(checks(path) && checks(path + BLOCK_BYTES), "a block's check is wrong");
         print_path(path);
     }
     require(all_bytes(table, sizeof table, 0), "the table is not zero");
