@@ -16,12 +16,13 @@ use formats::numbers::{CALL_REFUSALS, KINDS, REASONS};
 use formats::random::Random;
 use formats::show::code_line;
 use library::Reply;
-use oracle::{Interval, Job, Path};
+use oracle::{Interval, Job, NamedTwice, Path, TWO_OPERANDS};
 use programs::{input_count, large_box, memory_for, program, small_box};
+use std::collections::BTreeSet;
 
 const FIRST_SEED: u64 = 1;
 const JOBS: u64 = 10_400;
-/// From this many jobs on, every kind, reason and refusal must have been seen.
+/// From this many jobs on, all that `Tally` asks for must have been seen.
 const ENOUGH_JOBS: u64 = 10_000;
 const SHOWN_FAILURES: u64 = 3;
 /// Words before and after each lent slice, to see that nothing beyond it is written.
@@ -205,12 +206,18 @@ fn byte_text(call: &Call, place: usize, report: &[u8], expected: &[u8]) -> Strin
 struct Task {
     job: Job,
     listing: Vec<Path>,
+    /// What the brute force came to; none for a large box.
+    met: BTreeSet<NamedTwice>,
     /// Where the walk through the pages is, with the pages so far; none when it is whole.
     next: Option<u64>,
     joined: Vec<u8>,
 }
 
 impl Task {
+    fn new(job: Job, listing: Vec<Path>, met: BTreeSet<NamedTwice>) -> Task {
+        Task { job, listing, met, next: Some(0), joined: Vec::new() }
+    }
+
     fn path_bytes(&self) -> usize {
         path_bytes(self.job.intervals.len())
     }
@@ -261,14 +268,14 @@ fn small_task(random: &mut Random, lent: &Lent, intervals: &[Interval]) -> Task 
     let job = if long { long_job(random, lent) } else { random_job(random, lent, intervals) };
     // a list that is refused whole needs no listing
     let fits = lent.memory_words == MEMORY_WORDS && lent.entries() > 0;
-    let listing = if fits { oracle::listing(&job) } else { Vec::new() };
-    Task { job, listing, next: Some(0), joined: Vec::new() }
+    let (listing, met) = if fits { oracle::listing_and_met(&job) } else { Default::default() };
+    Task::new(job, listing, met)
 }
 
 /// The listing is the library's own, once single runs have agreed with it.
 fn large_task(random: &mut Random, lent: &mut Lent, boxed: &[Interval]) -> Result<Task, Failure> {
     let job = random_job(random, lent, boxed);
-    let mut task = Task { job, listing: Vec::new(), next: Some(0), joined: Vec::new() };
+    let mut task = Task::new(job, Vec::new(), BTreeSet::new());
     match own_listing(random, lent, &mut task) {
         Ok(listing) => task.listing = listing,
         Err(fault) => return Err(failure(lent, &task.job, fault)),
@@ -422,6 +429,8 @@ struct Tally {
     kinds: [u64; KINDS as usize + 1],
     reasons: [u64; REASONS as usize + 1],
     refusals: [u64; CALL_REFUSALS as usize + 1],
+    /// Programs that came to a register named twice: fixed, and open.
+    named_twice: [[u64; TWO_OPERANDS.len()]; 2],
     calls: u64,
     forks: u64,
     loops: u64,
@@ -434,6 +443,9 @@ impl Tally {
         for path in &task.listing {
             self.kinds[path.kind as usize] += 1;
             self.reasons[path.reason as usize] += 1;
+        }
+        for met in &task.met {
+            self.named_twice[met.open as usize][met.place] += 1;
         }
         let paths = || task.listing.iter();
         let words = task.job.code.len() as u64;
@@ -450,14 +462,20 @@ impl Tally {
     }
 
     fn is_complete(&self) -> bool {
-        let seen = |counts: &[u64]| counts[1..].iter().all(|&count| count > 0);
-        seen(&self.kinds) && seen(&self.reasons) && seen(&self.refusals)
+        let seen = |counts: &[u64]| counts.iter().all(|&count| count > 0);
+        let numbered = seen(&self.kinds[1..]) && seen(&self.reasons[1..]);
+        numbered && seen(&self.refusals[1..]) && seen(&self.named_twice.concat())
     }
 
     fn print(&self) {
         println!("kinds 1 to {KINDS}: {:?}", &self.kinds[1..]);
         println!("reasons 1 to {REASONS}: {:?}", &self.reasons[1..]);
         println!("refusals 1 to {CALL_REFUSALS}: {:?}", &self.refusals[1..]);
+        for (register, counts) in ["a fixed", "an open"].iter().zip(&self.named_twice) {
+            let count = |(name, count)| format!(" {name} {count}");
+            let counts: String = TWO_OPERANDS.iter().zip(counts).map(count).collect();
+            println!("programs with {register} register twice:{counts}");
+        }
         println!(
             "{} calls; programs with forks {}, loops {}, stores {}, several inputs {}",
             self.calls, self.forks, self.loops, self.stores, self.several_inputs
@@ -553,7 +571,7 @@ fn main() {
     tally.print();
     let unseen = count >= ENOUGH_JOBS && !tally.is_complete();
     if unseen {
-        println!("a kind, a reason or a refusal was never seen");
+        println!("a kind, a reason, a refusal or a register named twice was never seen");
     }
     println!("{count} jobs, {differ} differ");
     if differ > 0 || unseen {

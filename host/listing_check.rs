@@ -123,7 +123,7 @@ fn check_path(random: &mut Random, job: &Job, path: &Path) -> Result<(), String>
     let at_lows = check_choice(job, path, &lows(path))?;
     let at_highs = check_choice(job, path, &highs(path))?;
     for register in 0..REGISTERS {
-        // a value hangs on one input and only rises or only falls: these two corners are its ends
+        // a value is fixed, or only rises or only falls with one input: these corners are its ends
         let (a, b) = (at_lows[register], at_highs[register]);
         if path.registers[register] != (a.min(b), a.max(b)) {
             let ends = path.registers[register];

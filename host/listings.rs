@@ -106,9 +106,7 @@ fn operand_reasons() -> Vec<Example> {
     let times_half = [ld(6, 16, 0), mul(10, 5, 6)];
     vec![
         reading("ADD of one open register twice", 3, 6, &[add(10, 5, 5)]),
-        reading("SUB of one open register twice", 3, 6, &[sub(10, 5, 5)]),
         reading("MUL of one open register twice", 3, 6, &[mul(10, 5, 5)]),
-        reading("BEQ of one open register twice", 3, 6, &[beq(5, 5, 8)]),
         reading_two("SLTU of two inputs", (3, 4), (4, 5), &[sltu(10, 5, 7)]),
         reading("MUL by 3", 3, 6, &[addi(6, 0, 3), mul(10, 6, 5)]),
         reading("DIVU by 3", 3, 6, &[addi(6, 0, 3), divu(10, 5, 6)]),
@@ -269,6 +267,90 @@ fn few_entries() -> Vec<Example> {
     ]
 }
 
+/// No. 1 of document 02: SUB and SLTU give a fixed 0, and BEQ is taken.
+fn same_register() -> Vec<Example> {
+    let based = |word: u32| [word, ld(10, 16, 6)];
+    let less = [sub(6, 5, 5), addi(6, 6, 5), sltu(10, 5, 6)];
+    let equal = [sltu(6, 5, 5), beq(5, 6, 8), addi(10, 0, 1)];
+    let over = [beq(5, 5, 8), 0, addi(6, 0, 5), sltu(10, 5, 6)];
+    let falling = [sub(6, 0, 5), beq(6, 6, 8), addi(6, 0, 1), sub(10, 6, 6)];
+    let read = [sub(10, 5, 5), ecall(), ld(10, 0, 0)];
+    let words = [0, 0, 7];
+    vec![
+        reading("SUB of one open register twice", 3, 6, &[sub(10, 5, 5)]),
+        reading("SLTU of one open register twice", 3, 6, &[sltu(10, 5, 5)]),
+        reading("BEQ of one open register twice", 3, 6, &[beq(5, 5, 8), addi(10, 0, 1)]),
+        reading("BEQ of one open register twice, over two words", 3, 6, &[beq(5, 5, 12), 0, 0]),
+        reading("BEQ of one open register twice, to half a word", 3, 6, &[beq(5, 5, 6)]),
+        reading("SUB of one register twice, then LD", 3, 6, &based(sub(6, 5, 5))).memory(&words),
+        reading("SLTU of one register twice, then LD", 3, 6, &based(sltu(6, 5, 5))).memory(&words),
+        reading("SUB of one register twice, then ADD", 3, 6, &[sub(6, 5, 5), add(10, 6, 5)]),
+        reading("SLTU of one register twice, then MUL", 3, 6, &[sltu(6, 5, 5), mul(10, 5, 6)]),
+        reading("SUB of one register twice, then DIVU", 3, 6, &[sub(6, 5, 5), divu(10, 5, 6)]),
+        reading("SUB of one register twice, then a fork", 3, 6, &less),
+        reading("SLTU of one register twice, then a fork", 0, 3, &equal),
+        reading("BEQ of one register twice, then a fork", 3, 6, &over),
+        reading("SUB of one register twice, into itself", 3, 6, &[sub(5, 5, 5), addi(10, 5, 1)]),
+        reading("SLTU of one register twice, into itself", 3, 6, &[sltu(5, 5, 5), addi(10, 5, 1)]),
+        reading("one falling register twice", 1, 4, &falling),
+        reading_two("one of two inputs twice", (3, 4), (4, 5), &[sub(7, 7, 7), add(10, 7, 5)]),
+        reading("SUB of one register twice, then read", 3, 4, &read).over(8, 9),
+    ]
+}
+
+fn same_register_in_loops() -> Vec<Example> {
+    let back = [addi(10, 10, 1), beq(5, 5, -4)];
+    let counted = [beq(5, 6, 12), addi(6, 6, 1), beq(5, 5, -8), addi(10, 6, 0)];
+    let to_zero = [addi(7, 0, 2), sub(6, 5, 5), addi(7, 7, -1), beq(7, 6, 8), beq(5, 5, -12)];
+    let less = [sltu(6, 5, 5), addi(6, 6, 5), sltu(10, 5, 6)];
+    let again = [addi(7, 7, -1), beq(7, 0, 8), jal(0, -20)];
+    let less_twice = [&[addi(7, 0, 2)][..], &less, &again].concat();
+    vec![
+        reading("BEQ of one register twice, to itself", 3, 6, &[beq(5, 5, 0)]).limit(12).entries(5),
+        reading("BEQ of one register twice, back", 3, 6, &back).limit(12),
+        reading("BEQ of one register twice, back to a fork", 0, 3, &counted),
+        reading("SUB of one register twice, two turns", 3, 6, &to_zero),
+        reading("SLTU of one register twice, two turns with a fork", 3, 6, &less_twice),
+    ]
+}
+
+fn same_register_entries() -> Vec<Example> {
+    let zeros = [sub(0, 5, 5), sltu(0, 5, 5), mul(0, 5, 5), remu(0, 5, 5)];
+    vec![
+        reading("SUB of one register twice, no entry left", 3, 6, &[sub(10, 5, 5)]).entries(5),
+        reading("SUB of one register twice, one entry left", 3, 6, &[sub(10, 5, 5)]).entries(6),
+        reading("SLTU of one register twice, no entry left", 3, 6, &[sltu(10, 5, 5)]).entries(5),
+        reading("SLTU of one register twice, one entry left", 3, 6, &[sltu(10, 5, 5)]).entries(6),
+        reading("BEQ of one register twice, no entry left", 3, 6, &[beq(5, 5, 8), 0]).entries(5),
+        reading("one register twice into register 0", 3, 6, &zeros).entries(6),
+    ]
+}
+
+fn same_register_as_before() -> Vec<Example> {
+    let copied = |word: u32| [ld(6, 0, 0), word];
+    let cut = [addi(6, 0, 5), beq(5, 6, 4), mul(10, 5, 5)];
+    let quotient = [addi(6, 0, 4), divu(7, 5, 6), add(10, 7, 7)];
+    vec![
+        reading("DIVU of one open register twice", 0, 3, &[divu(10, 5, 5)]),
+        reading("REMU of one open register twice", 0, 3, &[remu(10, 5, 5)]),
+        reading("SUB of one open value in two registers", 3, 6, &copied(sub(10, 5, 6))),
+        reading("SLTU of one open value in two registers", 3, 6, &copied(sltu(10, 5, 6))),
+        reading("BEQ of one open value in two registers", 3, 6, &copied(beq(5, 6, 8))),
+        reading("SUB of one fixed register twice", 5, 5, &[sub(10, 5, 5)]),
+        reading("MUL of one fixed register twice", 5, 5, &[mul(10, 5, 5)]),
+        reading("DIVU of one fixed register twice", 5, 5, &[divu(10, 5, 5)]),
+        reading("REMU of one fixed register twice", 5, 5, &[remu(10, 5, 5)]),
+        reading("SLTU of one fixed register twice", 5, 5, &[sltu(10, 5, 5)]),
+        reading("BEQ of one fixed register twice", 5, 5, &[beq(5, 5, 8), addi(10, 0, 1)]),
+        reading("DIVU of one register twice that is 0", 0, 0, &[divu(10, 5, 5)]),
+        reading("MUL of one register twice where a fork fixed it", 3, 6, &cut),
+        reading("ADD of one register twice, a fixed quotient", 4, 7, &quotient),
+        reading("SUB of register 0 twice", 3, 6, &[sub(10, 0, 0)]),
+        reading("SLTU of register 0 twice", 3, 6, &[sltu(10, 0, 0)]),
+        reading("BEQ of register 0 twice", 3, 6, &[beq(0, 0, 8), addi(10, 0, 1)]),
+    ]
+}
+
 /// A table of the file: its name, what it shows, and its examples.
 struct Table {
     name: &'static str,
@@ -290,6 +372,10 @@ fn tables() -> Vec<Table> {
         table("stored", "memory", memory()),
         table("slips", "what each path has of its own", slips()),
         table("few-entries", "kind 9", few_entries()),
+        table("same-register", "SUB, SLTU and BEQ of one register twice", same_register()),
+        table("same-in-loops", "one register twice in loops", same_register_in_loops()),
+        table("same-entries", "one register twice and the entries", same_register_entries()),
+        table("same-as-before", "one register twice by document 01", same_register_as_before()),
     ]
 }
 
@@ -443,7 +529,7 @@ fn file_text(tables: &[Table]) -> String {
 
 const HEAD: &str = "\
 -- Small jobs with their whole listings, computed by the moves over all the choices of a box. The program host/listings.rs
--- writes this file: what is expected comes from the brute-force oracle there, which knows document 01 alone.
+-- writes this file: what is expected comes from the brute-force oracle there, which knows documents 01 and 02 alone.
 -- Assumes nothing.
 use mathlib.Core.Path.{_≡_, refl}
 use mathlib.Core.List.{List, [], _∷_, _++_, map, flatMap}

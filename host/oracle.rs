@@ -1,15 +1,15 @@
-//! A brute-force oracle for the interval path explorer, after document 01.
+//! A brute-force oracle for the interval path explorer, after document 01 and No. 1 of document 02.
 //!
 //! A group holds every choice of its box, each with a plain machine of its own; a value is fixed if
 //! all of them give the same, and pieces are made by sorting the choices. Nothing is computed from
 //! the ends of intervals alone, so it is slow and plain: boxes of up to some 100,000 choices.
 //!
-//! It is the other side of every comparison, a reading of document 01 by itself: it has a decoder, a
-//! machine, numbers and a writer of records of its own, and shares none with the tool or the crates.
+//! It is the other side of every comparison, a reading of the papers by itself: it has a decoder, a
+//! machine, numbers and a writer of records of its own, and shares none with the tool or crates.
 
 #![allow(dead_code)] // a program that includes this module uses a part of it
 
-use std::collections::BTreeMap;
+use std::collections::{BTreeMap, BTreeSet};
 use std::rc::Rc;
 
 pub const MEMORY_WORDS: usize = 512;
@@ -470,13 +470,17 @@ impl Group {
 /// A kind and its reason.
 pub type End = (u64, u64);
 
-/// The instruction that a group completes next and the trace entries that it takes, or the group's end.
-fn decide(job: &Job, group: &Group) -> Result<(Instruction, u64), End> {
+/// Points 1 to 3: the instruction that a group comes to, or the group's end.
+fn next(job: &Job, group: &Group) -> Result<Instruction, End> {
     if group.steps == job.limit {
         return Err((STEP_LIMIT, 0));
     }
     let word = word_at(&job.code, group.pc()).ok_or((BAD_PC, 0))?;
-    let instruction = decode(word).ok_or((BAD_WORD, 0))?;
+    decode(word).ok_or((BAD_WORD, 0))
+}
+
+/// Points 4 to 10: the trace entries that the instruction takes, or the group's end.
+fn decide(job: &Job, group: &Group, instruction: Instruction) -> Result<u64, End> {
     if let Some(end) = end_at(group, instruction) {
         return Err(end);
     }
@@ -484,7 +488,7 @@ fn decide(job: &Job, group: &Group) -> Result<(Instruction, u64), End> {
     if needed > job.entries - group.used {
         return Err((TRACE_FULL, 0));
     }
-    Ok((instruction, needed))
+    Ok(needed)
 }
 
 /// The end of a group of any size, by the choices at its lows and at its highs alone: where every
@@ -496,7 +500,8 @@ pub fn end_by_corners(job: &Job, intervals: &[Interval], steps: u64, used: u64) 
         Choice { inputs: Rc::new(inputs), machine }
     };
     let choices = vec![corner(|ends| ends.0), corner(|ends| ends.1)];
-    decide(job, &Group { choices, steps, used }).err()
+    let group = Group { choices, steps, used };
+    next(job, &group).and_then(|instruction| decide(job, &group, instruction)).err()
 }
 
 /// Points 4 to 9.
@@ -507,11 +512,13 @@ fn end_at(group: &Group, instruction: Instruction) -> Option<End> {
             data_end(group, rs1, imm)
         }
         Instruction::Jalr { rs1, .. } if group.is_open(rs1) => Some((NOT_FOLLOWED, BASE_OPEN)),
-        Instruction::Beq { rs1, rs2, .. } => both_open(group, rs1, rs2),
+        // No. 1 of document 02: BEQ, SUB and SLTU naming one register twice do not meet reason 1
+        Instruction::Beq { rs1, rs2, .. } if rs1 != rs2 => both_open(group, rs1, rs2),
         // arithmetic into register 0 skips points 7 and 8
         Instruction::Register { operation, rd, rs1, rs2 } if rd != 0 => match operation {
             Operation::Divu | Operation::Remu => division_end(group, operation, rs1, rs2),
             Operation::Mul => multiplication_end(group, rs1, rs2),
+            Operation::Sub | Operation::Sltu if rs1 == rs2 => None,
             Operation::Add | Operation::Sub | Operation::Sltu => both_open(group, rs1, rs2),
         },
         _ => None,
@@ -687,18 +694,49 @@ fn path_of(group: &Group, (kind, reason): End) -> Path {
 
 /// All the paths of a job, in their order.
 pub fn listing(job: &Job) -> Vec<Path> {
-    let mut ended = Vec::new();
+    listing_and_met(job).0
+}
+
+/// The listing, and what its groups came to that names one register twice.
+pub fn listing_and_met(job: &Job) -> (Vec<Path>, BTreeSet<NamedTwice>) {
+    let (mut ended, mut met) = (Vec::new(), BTreeSet::new());
     // the first waiting group is the last of the vector
     let mut waiting = vec![starting_group(job)];
     while let Some(group) = waiting.pop() {
-        match decide(job, &group) {
+        let decided = next(job, &group).and_then(|instruction| {
+            met.extend(named_twice(&group, instruction));
+            Ok((instruction, decide(job, &group, instruction)?))
+        });
+        match decided {
             Err(end) => ended.push(path_of(&group, end)),
             Ok((instruction, needed)) => {
                 waiting.extend(split(group, instruction, needed).into_iter().rev())
             }
         }
     }
-    ended
+    (ended, met)
+}
+
+/// What can name one register as both operands: the operations in their order, and BEQ.
+pub const TWO_OPERANDS: [&str; 7] = ["ADD", "SUB", "MUL", "DIVU", "REMU", "SLTU", "BEQ"];
+
+/// One of them, by its place there, and whether the register was open where a group came to it.
+#[derive(Clone, Copy, Debug, PartialEq, Eq, PartialOrd, Ord)]
+pub struct NamedTwice {
+    pub place: usize,
+    pub open: bool,
+}
+
+/// None into register 0, where nothing is asked of the operands.
+fn named_twice(group: &Group, instruction: Instruction) -> Option<NamedTwice> {
+    let (place, register) = match instruction {
+        Instruction::Register { operation, rd, rs1, rs2 } if rd != 0 && rs1 == rs2 => {
+            (operation as usize, rs1)
+        }
+        Instruction::Beq { rs1, rs2, .. } if rs1 == rs2 => (TWO_OPERANDS.len() - 1, rs1),
+        _ => return None,
+    };
+    Some(NamedTwice { place, open: group.is_open(register) })
 }
 
 // ---------------------------------------------------------------------------------------------

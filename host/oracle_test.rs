@@ -1,5 +1,5 @@
-//! Tests of the oracle itself: document 01's rules on trial, and random jobs against runs of its
-//! plain machine.
+//! Tests of the oracle itself: document 01's rules on trial, No. 1 of document 02, and random jobs
+//! against runs of its plain machine.
 
 mod listing_check;
 mod oracle;
@@ -116,6 +116,93 @@ fn ten_tests_of_one_value_have_two_paths() {
 }
 
 #[test]
+fn sub_sltu_and_beq_of_one_open_register_are_followed() {
+    assert_eq!(exits(&[sub(10, 5, 5)], 0, 255), [((0, 255), (0, 0))]);
+    assert_eq!(exits(&[sltu(10, 5, 5)], 0, 255), [((0, 255), (0, 0))]);
+    // the branch is taken, so register 10 keeps the 8 of the read
+    assert_eq!(exits(&[beq(5, 5, 8), addi(10, 0, 1)], 0, 255), [((0, 255), (8, 8))]);
+}
+
+#[test]
+fn a_register_against_itself_gives_a_fixed_value() {
+    let whole = [((3, 6), (3, 6))];
+    assert_eq!(exits(&[sub(6, 5, 5), ld(10, 0, 6)], 3, 6), whole);
+    assert_eq!(exits(&[sltu(6, 5, 5), ld(10, 0, 6)], 3, 6), whole);
+    assert_eq!(exits(&[sub(6, 5, 5), add(10, 6, 5)], 3, 6), whole);
+    assert_eq!(exits(&[sub(5, 5, 5), addi(10, 5, 1)], 3, 6), [((3, 6), (1, 1))]);
+    let compared = [sltu(6, 5, 5), addi(6, 6, 5), sltu(10, 5, 6)];
+    assert_eq!(exits(&compared, 3, 6), [((3, 4), (1, 1)), ((5, 6), (0, 0))]);
+}
+
+#[test]
+fn other_arithmetic_of_one_open_register_is_not_followed() {
+    let words = [
+        (add(10, 5, 5), BOTH_OPEN),
+        (mul(10, 5, 5), BOTH_OPEN),
+        (divu(10, 5, 5), DIVISOR_OPEN),
+        (remu(10, 5, 5), DIVISOR_OPEN),
+    ];
+    for (word, reason) in words {
+        let expected = [(NOT_FOLLOWED, reason, 16, 4, (0, 3), (8, 8))];
+        assert_eq!(lines(&job(&reads(&[word]), 0, 3, 100)), expected);
+    }
+}
+
+#[test]
+fn two_registers_with_one_open_value_are_not_followed() {
+    for word in [sub(10, 5, 6), sltu(10, 5, 6), beq(5, 6, 8)] {
+        let expected = [(NOT_FOLLOWED, BOTH_OPEN, 20, 5, (3, 6), (8, 8))];
+        assert_eq!(lines(&job(&reads(&[ld(6, 0, 0), word]), 3, 6, 100)), expected);
+    }
+}
+
+#[test]
+fn one_fixed_register_twice() {
+    let operations = [add, sub, mul, divu, remu, sltu];
+    for (operation, value) in operations.iter().zip([10, 0, 25, 1, 0, 0]) {
+        assert_eq!(exits(&[operation(10, 5, 5)], 5, 5), [((5, 5), (value, value))]);
+        // into register 0 nothing is asked, open or fixed
+        assert_eq!(exits(&[operation(0, 5, 5)], 0, 3), [((0, 3), (8, 8))]);
+    }
+    assert_eq!(exits(&[beq(5, 5, 8), addi(10, 0, 1)], 5, 5), [((5, 5), (8, 8))]);
+}
+
+#[test]
+fn a_register_against_itself_takes_an_entry_only_to_write() {
+    let ends = |word, entries| {
+        let job = Job { entries, ..job(&reads(&[word, addi(10, 0, 1)]), 3, 6, 100) };
+        lines(&job)
+    };
+    // the read and the load have taken 5
+    for operation in [sub, sltu] {
+        assert_eq!(ends(operation(10, 5, 5), 5), [(TRACE_FULL, 0, 16, 4, (3, 6), (8, 8))]);
+        assert_eq!(ends(operation(10, 5, 5), 6), [(TRACE_FULL, 0, 20, 5, (3, 6), (0, 0))]);
+    }
+    assert_eq!(ends(beq(5, 5, 8), 5), [(TRACE_FULL, 0, 24, 5, (3, 6), (8, 8))]);
+}
+
+#[test]
+fn a_branch_on_a_register_against_itself_goes_back() {
+    let expected = [(STEP_LIMIT, 0, 16, 50, (3, 6), (8, 8))];
+    assert_eq!(lines(&job(&reads(&[beq(5, 5, 0)]), 3, 6, 50)), expected);
+    // counts up to the input
+    let counted = [beq(5, 6, 12), addi(6, 6, 1), beq(5, 5, -8), addi(10, 6, 0)];
+    let each = [0, 1, 2, 3].map(|value| ((value, value), (value, value)));
+    assert_eq!(exits(&counted, 0, 3), each);
+}
+
+#[test]
+fn registers_named_twice_are_met_open_or_fixed() {
+    // BEQ cuts 3..6 at 5; ADD into register 0 does not count
+    let work = [add(0, 5, 5), sltu(7, 5, 5), addi(6, 0, 5), beq(5, 6, 4), mul(10, 5, 5)];
+    let (_, met) = listing_and_met(&job(&reads(&work), 3, 6, 100));
+    let names: Vec<_> = met.iter().map(|met| (TWO_OPERANDS[met.place], met.open)).collect();
+    assert_eq!(names, [("MUL", false), ("MUL", true), ("SLTU", true)]);
+    // the limit comes before the instruction
+    assert!(listing_and_met(&job(&reads(&work), 3, 6, 5)).1.is_empty());
+}
+
+#[test]
 fn check_of_an_empty_payload() {
     assert_eq!(check(&[0; PAYLOAD_WORDS]), 0x8000000000000000);
 }
@@ -185,10 +272,11 @@ fn random_job(random: &mut Random) -> Job {
 #[test]
 fn plain_runs_agree_with_their_paths() {
     let mut random = Random(1);
-    let mut ends = BTreeSet::new();
+    let (mut ends, mut all_met) = (BTreeSet::new(), BTreeSet::new());
     for _ in 0..3000 {
         let job = random_job(&mut random);
-        let paths = listing(&job);
+        let (paths, met) = listing_and_met(&job);
+        all_met.extend(met);
         ends.extend(paths.iter().map(|path| (path.kind, path.reason)));
         listing_check::check_listing(&mut random, &job, &paths).unwrap();
         for inputs in all_inputs(&job.intervals) {
@@ -198,6 +286,8 @@ fn plain_runs_agree_with_their_paths() {
     }
     // one kind has the reasons
     assert_eq!(ends.len() as u64, KINDS - 1 + REASONS, "{ends:?}");
+    // open, and fixed
+    assert_eq!(all_met.len(), 2 * TWO_OPERANDS.len(), "{all_met:?}");
 }
 
 #[test]

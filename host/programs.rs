@@ -100,7 +100,7 @@ pub fn program(random: &mut Random, inputs: usize) -> Vec<u32> {
     for _ in 0..writer.random.pick(&wanted) {
         writer.read();
     }
-    for _ in 0..2 + writer.random.below(11) {
+    for _ in 0..2 + writer.random.below(12) {
         writer.snippet();
     }
     if !writer.random.once_in(12) {
@@ -131,7 +131,7 @@ impl Writer<'_> {
     }
 
     fn snippet(&mut self) {
-        match self.random.below(40) {
+        match self.random.below(43) {
             0..=11 => self.operation(),
             12..=14 => self.immediate(),
             15..=20 => self.skip_unless_less(),
@@ -142,7 +142,8 @@ impl Writer<'_> {
             34 => self.subroutine(),
             35 => self.read(),
             36 => self.wild_word(),
-            _ => self.oddity(),
+            37..=39 => self.oddity(),
+            _ => self.against_itself(),
         }
     }
 
@@ -154,7 +155,8 @@ impl Writer<'_> {
         let limit = self.random.pick(&[NEAR, WIDE, constant]);
         let rd = self.random.pick(&[value, value, other, other, other, 10, 0]);
         let (left, right) = self.random.pick(&[(value, limit), (value, limit), (limit, value)]);
-        let word = match self.random.below(16) {
+        let twice = self.random.pick(&[value, value, constant]);
+        let word = match self.random.below(18) {
             0..=2 => add(rd, left, right),
             3..=5 => sub(rd, left, right),
             6..=9 => sltu(rd, left, right),
@@ -162,9 +164,25 @@ impl Writer<'_> {
             11 => mul(rd, power, value),
             12 => divu(rd, value, power),
             13 | 14 => remu(rd, value, limit),
-            _ => self.random.pick(&[add(rd, value, other), mul(rd, constant, constant)]),
+            15 => self.random.pick(&[add(rd, value, other), mul(rd, constant, limit)]),
+            _ => self.random.pick(&[add, mul, divu, remu])(rd, twice, twice),
         };
         self.code.push(word);
+    }
+
+    /// SUB, SLTU or BEQ of one register twice; what they leave is often used at once.
+    fn against_itself(&mut self) {
+        let (value, other) = (self.value(), self.value());
+        let constant = self.random.pick(&CONSTANTS);
+        let twice = self.random.pick(&[value, value, value, constant]);
+        let zero = self.random.pick(&[TEST, TEST, 10, other]);
+        let skip = beq(twice, twice, self.random.pick(&[4, 8, 8, 12]));
+        let words = [sub(zero, twice, twice), sltu(zero, twice, twice), skip];
+        self.code.push(self.random.pick(&words));
+        if self.random.once_in(2) {
+            let uses = [ld(other, 64, zero), add(other, zero, value), beq(value, zero, 8)];
+            self.code.push(self.random.pick(&uses));
+        }
     }
 
     fn immediate(&mut self) {
@@ -206,18 +224,30 @@ impl Writer<'_> {
         self.code.push(addi(COUNTER, 0, turns));
         let start = self.code.len();
         for _ in 0..1 + self.random.below(3) {
-            self.operation();
+            match self.random.once_in(6) {
+                true => self.against_itself(),
+                false => self.operation(),
+            }
         }
         self.code.extend([addi(COUNTER, COUNTER, -1), beq(COUNTER, 0, 8)]);
-        let back = self.code.len() - start;
-        self.code.push(jal(0, -4 * back as i64));
+        self.jump_back(start);
+    }
+
+    /// A jump by JAL or, as compilers write it, by BEQ of one register twice.
+    fn jump_back(&mut self, start: usize) {
+        let offset = 4 * (start as i64 - self.code.len() as i64);
+        let value = self.value();
+        let word = self.random.pick(&[jal(0, offset), beq(value, value, offset)]);
+        self.code.push(word);
     }
 
     /// Adds to a value while it is below a constant: a fork in each turn.
     fn loop_while_less(&mut self) {
         let value = self.value();
+        let start = self.code.len();
         let more = self.random.pick(&[addi(value, value, 9), add(value, value, WIDE)]);
-        self.code.extend([sltu(TEST, value, NEAR), beq(TEST, 0, 12), more, jal(0, -12)]);
+        self.code.extend([sltu(TEST, value, NEAR), beq(TEST, 0, 12), more]);
+        self.jump_back(start);
     }
 
     fn subroutine(&mut self) {
@@ -243,7 +273,7 @@ impl Writer<'_> {
     fn oddity(&mut self) {
         let value = self.value();
         let odd = self.random.next() as u32;
-        let words: [&[u32]; 20] = [
+        let words: [&[u32]; 21] = [
             &[ld(10, 0, value)],
             &[sd(10, 0, value)],
             &[jalr(1, 0, value)],
@@ -264,6 +294,7 @@ impl Writer<'_> {
             &[remu(10, value, 0)],
             &[divu(10, POWER, value)],
             &[jal(0, 0)],
+            &[beq(value, value, 0)],
         ];
         self.code.extend(self.random.pick(&words));
     }

@@ -65,7 +65,8 @@ enum mirokefa_kind {
 };
 
 enum mirokefa_reason {
-    MIROKEFA_BOTH_OPEN = 1,         /* both operands of ADD, SUB, MUL, SLTU or BEQ not fixed */
+    MIROKEFA_BOTH_OPEN = 1,         /* both operands of ADD, SUB, MUL, SLTU or BEQ not fixed; SUB, SLTU and BEQ of one register
+                                       twice are followed */
     MIROKEFA_MULTIPLIER = 2,        /* MUL by a fixed number, neither 0 nor a power of two */
     MIROKEFA_DIVISOR = 3,           /* DIVU by a fixed number that is no power of two */
     MIROKEFA_DIVISOR_OPEN = 4,      /* DIVU or REMU by a number that is not fixed */

@@ -24,7 +24,7 @@ use Rattle.riscu.specs.declared.Instruction.the-variants.{Lui, Addi, Register, 
 use Rattle.riscu.specs.declared.Decoded.{Decoded}
 use Rattle.riscu.specs.declared.Decoded.the-variants.{Row, NoRow}
 use Rattle.listing.specs.Group.{Job, Group, after, sortOf, sortingOf, operand, classOf, View, viewOf}
-use Rattle.listing.specs.Ending.{Point, first, badAddress, operandOpen, operandValue, bothOpen, farApart}
+use Rattle.listing.specs.Ending.{Point, first, badAddress, operandOpen, operandValue, bothOpen, twoOpen, farApart}
 use Rattle.listing.specs.Ending.{operationPoints, operandPoints, addressPoints, points, needs, endAt, endBy, endOf}
 use Rattle.listing.specs.declared.Operand.{Operand}
 use Rattle.listing.specs.declared.Operand.the-variants.{InRegister, Constant}
@@ -101,6 +101,9 @@ module _ (j : Job) (g : Group) (good : Good j g) where
   both : (a b : Operand) → bothOpen (viewOf j g) a b ≡ bothOpen (cornersOf j g) a b
   both a b = cc (operandOpens a, operandOpens b)
 
+  two : (a b : Operand) → twoOpen (viewOf j g) a b ≡ twoOpen (cornersOf j g) a b
+  two a b = cc (both a b)
+
   -- with one operand fixed
   quotient : (op : Operation) (a b : Operand) → WordIn a → WordIn b
       → OneSame (EitherOpen op) (g .box) (λ c. operand a (after j (g .steps) c .registers)) (λ c. operand b (after j (g .steps) c .registers))
@@ -123,7 +126,7 @@ module _ (j : Job) (g : Group) (good : Good j g) where
       → Agree (operationPoints (viewOf j g) op a b) (operationPoints (cornersOf j g) op a b)
   unfolding operationPoints
   operation-agrees Add a b wa wb = then (both a b) (λ n. done)
-  operation-agrees Sub a b wa wb = then (both a b) (λ n. done)
+  operation-agrees Sub a b wa wb = then (two a b) (λ n. done)
   operation-agrees Mul a b wa wb =
       then (both a b) (λ n.
       then (cc (operandOpens b, operandValues a)) (λ _.
@@ -137,12 +140,12 @@ module _ (j : Job) (g : Group) (good : Good j g) where
       then (operandOpens b) (λ n.
       then (cc (operandValues b)) (λ _.
       then (quotient Remu a b wa wb (inl (operand-closed j g b n))) (λ _. done)))
-  operation-agrees Sltu a b wa wb = then (both a b) (λ n. done)
+  operation-agrees Sltu a b wa wb = then (two a b) (λ n. done)
 
   operands-agree : (x : Sorting) → WordsIn x → Agree (operandPoints (viewOf j g) x) (operandPoints (cornersOf j g) x)
   unfolding operandPoints
   operands-agree (Operates op a b) (wa, wb) = operation-agrees op a b wa wb
-  operands-agree (Compares a b) w = then (both a b) (λ n. done)
+  operands-agree (Compares a b) w = then (two a b) (λ n. done)
   operands-agree Nothing w = done
 
   access-agrees : (r : ℕ) (imm : ℤ)

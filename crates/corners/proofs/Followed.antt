@@ -1,6 +1,6 @@
 -- Where none of the points 2 to 9 ends a group, every choice in its box is followed.
 -- Assumes nothing.
-use mathlib.Core.Path.{_≡_, refl, sym, _∙_}
+use mathlib.Core.Path.{_≡_, refl, sym, ap, _∙_}
 use mathlib.Core.Logic.{_⊎_, inl, inr, ⊎-elim}
 use mathlib.Core.Bool.{Bool, true, false, not, _&&_, _||_, true≢false, and-eq-true-iff}
 use mathlib.Core.List.{List, [], _∷_, _++_}
@@ -19,15 +19,15 @@ use Rattle.riscu.specs.declared.Operation.the-variants.{Add, Sub, Mul, Divu, Re
 use Rattle.riscu.specs.declared.Instruction.{Instruction}
 use Rattle.riscu.specs.declared.Instruction.the-variants.{Lui, Addi, Register, Ld, Sd, Beq, Jal, Jalr, Ecall}
 use Rattle.listing.specs.Group.{Job, Group, after, sortingOf, operand, viewOf}
-use Rattle.listing.specs.Ending.{Point, first, lastAddress, badAddress, operandOpen, operandValue, bothOpen, divisorPoints}
+use Rattle.listing.specs.Ending.{Point, first, lastAddress, badAddress, sameRegister, operandOpen, operandValue, bothOpen, twoOpen, divisorPoints}
 use Rattle.listing.specs.Ending.{operationPoints, operandPoints, addressPoints, points}
 use Rattle.listing.specs.declared.Operand.{Operand}
 use Rattle.listing.specs.declared.Operand.the-variants.{InRegister, Constant}
 use Rattle.listing.specs.declared.Sorting.{Sorting}
 use Rattle.listing.specs.declared.Sorting.the-variants.{Operates, Compares, Nothing}
 use Rattle.listing.specs.declared.End.{End}
-use Rattle.corners.specs.Smooth.{EitherOpen, Same, OneSame, DataAddress, Defined, Reaches, Computes, Completes}
-use Rattle.corners.specs.Smooth.{baseOf, BaseSame, OperandsSettled, Settled}
+use Rattle.corners.specs.Smooth.{EitherOpen, WithItself, Same, OneSame, DataAddress, Defined, Reaches, Computes, Completes}
+use Rattle.corners.specs.Smooth.{baseOf, BaseSame, PairSettled, OperandsSettled, Settled}
 
 -- tests that fail
 
@@ -43,6 +43,11 @@ address-good : (a : ℕ) → badAddress a ≡ false → DataAddress a
 address-good a e =
     let (p, q) = or-false (not (eqb (a % 8) 0)) (ltb lastAddress a) e in
     (eqb-true (a % 8) 0 (not-false (eqb (a % 8) 0) p), ltb-false lastAddress a q)
+
+same-register : (a b : Operand) → sameRegister a b ≡ true → a ≡ b
+same-register (InRegister r) (InRegister q) e = ap InRegister (eqb-true r q e)
+same-register (InRegister r) (Constant n) e = absurd (true≢false (sym e))
+same-register (Constant m) b e = absurd (true≢false (sym e))
 
 -- the tests of a read that no point ends
 record ReadTests (o₁₇ o₁₀ o₁₁ o₁₂ r z e bad : Bool) : Type 0 where
@@ -113,6 +118,11 @@ module _ (j : Job) (g : Group) where
       ⊎-elim (λ p. inl (operand-closed b p)) (λ p. inr (e, operand-closed a p))
       (and-false (operandOpen (viewOf j g) b) (operandOpen (viewOf j g) a) h)
 
+  not-two : {E I : Type 0} (a b : Operand) → E → I → twoOpen (viewOf j g) a b ≡ false → PairSettled (g .box) states E I a b
+  not-two a b e i h =
+      ⊎-elim (λ p. inl (not-both a b e p)) (λ p. inr (i, same-register a b (not-false (sameRegister a b) p)))
+      (and-false (bothOpen (viewOf j g) a b) (not (sameRegister a b)) h)
+
   -- the divisor is fixed, and not 0 for every choice
   divisor-followed : (b : Operand) (ps : List Point) → first (divisorPoints (viewOf j g) b ++ ps) ≡ none
       → Same (g .box) (λ c. operand b (states c .registers)) × ((c : Choice) → Inside c (g .box) → 0 < operand b (states c .registers))
@@ -122,21 +132,21 @@ module _ (j : Job) (g : Group) where
       (operand-closed b p, λ c m. omega (arith, operand-at b p c m))
 
   operation-followed : (op : Operation) (a b : Operand) → first (operationPoints (viewOf j g) op a b) ≡ none
-      → OneSame (EitherOpen op) (g .box) (λ c. operand a (states c .registers)) (λ c. operand b (states c .registers))
+      → PairSettled (g .box) states (EitherOpen op) (WithItself op) a b
       × ((c : Choice) → Inside c (g .box) → Defined op (operand b (states c .registers)))
   unfolding operationPoints
-  operation-followed Add a b e = (not-both a b tt (first-none _ _ e .0), λ c m. tt)
-  operation-followed Sub a b e = (not-both a b tt (first-none _ _ e .0), λ c m. tt)
-  operation-followed Mul a b e = (not-both a b tt (first-none _ _ e .0), λ c m. tt)
-  operation-followed Divu a b e = let (s, d) = divisor-followed b _ e in (inl s, d)
-  operation-followed Remu a b e = let (s, d) = divisor-followed b _ e in (inl s, d)
-  operation-followed Sltu a b e = (not-both a b tt (first-none _ _ e .0), λ c m. tt)
+  operation-followed Add a b e = (inl (not-both a b tt (first-none _ _ e .0)), λ c m. tt)
+  operation-followed Sub a b e = (not-two a b tt tt (first-none _ _ e .0), λ c m. tt)
+  operation-followed Mul a b e = (inl (not-both a b tt (first-none _ _ e .0)), λ c m. tt)
+  operation-followed Divu a b e = let (s, d) = divisor-followed b _ e in (inl (inl s), d)
+  operation-followed Remu a b e = let (s, d) = divisor-followed b _ e in (inl (inl s), d)
+  operation-followed Sltu a b e = (not-two a b tt tt (first-none _ _ e .0), λ c m. tt)
 
   operands-followed : (x : Sorting) → first (operandPoints (viewOf j g) x) ≡ none
       → OperandsSettled (g .box) states x × ((c : Choice) → Inside c (g .box) → Computes x (states c))
   unfolding operandPoints
   operands-followed (Operates op a b) e = operation-followed op a b e
-  operands-followed (Compares a b) e = (not-both a b tt (first-none _ _ e .0), λ c m. tt)
+  operands-followed (Compares a b) e = (not-two a b tt tt (first-none _ _ e .0), λ c m. tt)
   operands-followed Nothing e = (tt, λ c m. tt)
 
   -- the base is fixed, and the address is good for every choice

@@ -4,6 +4,7 @@
 --     Smooth          steps that no point ends and that do not fork
 --     Uniform         after smooth steps every value is tame, with the tag that is computed
 --     Followed        what the ending order says of a group that goes on
+--     Itself          one register named twice: SUB, SLTU and BEQ go on
 --     Corner          the corners decide the ending order and the pieces
 --     Needs           the entries that a step takes, by the corners
 --     Moves           induction along the moves; every waiting group has smooth steps behind it
@@ -15,6 +16,7 @@ pub mod Tame
 pub mod Smooth
 pub mod Uniform
 pub mod Followed
+pub mod Itself
 pub mod Corner
 pub mod Needs
 pub mod Moves

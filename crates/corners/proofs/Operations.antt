@@ -1,6 +1,6 @@
 -- The operations on two words, one of them held fixed: the class is monotone in the other, and in each class so is the result.
 -- Assumes nothing.
-use mathlib.Core.Path.{_≡_, sym}
+use mathlib.Core.Path.{_≡_, refl, sym}
 use mathlib.Core.Logic.{_⊎_, inl, inr}
 use mathlib.Core.Bool.{cond}
 use Prim.Native.Nat.{ℕ, zero, suc, _+_, _-_, _*_, _/_, _%_, _≤_, _<_}
@@ -8,14 +8,14 @@ use native.Mathlib.Nat.{div-add-mod, div-zero, le-div-iff-mul-le, div-mul-le-sel
 use native.Mathlib.Omega.{arith}
 use native.Mathlib.Decide.{decLt}
 use lib.Dec.{ltb, eqb}
-use borrow.Author.Tests.{ltb-true, ltb-false, lt-ltb, le-ltb, eqb-true, eqb-false}
+use borrow.Author.Tests.{ltb-true, ltb-false, lt-ltb, le-ltb, eqb-true, eqb-false, eq-eqb}
 use Rattle.boxes.proofs.Lists.{by-test}
 use Rattle.riscu.specs.Word.{size, word}
 use Rattle.riscu.specs.Machine.{operate}
 use Rattle.riscu.specs.declared.Operation.{Operation}
 use Rattle.riscu.specs.declared.Operation.the-variants.{Add, Sub, Mul, Divu, Remu, Sltu}
 use Rattle.listing.specs.Group.{sortOf, comparison}
-use Rattle.corners.specs.Smooth.{EitherOpen}
+use Rattle.corners.specs.Smooth.{EitherOpen, WithItself}
 
 -- f goes one way in its first argument, the second held fixed, at the arguments that S relates
 abbrev pub Monotone : (ℕ → ℕ → ℕ → Type 0) → (ℕ → ℕ → ℕ) → Type 0
@@ -122,3 +122,30 @@ open-second Mul e = by-quotient (λ x v. v * x) (λ v x y h. mul-le-mul-left v h
 open-second Divu e = absurd e
 open-second Remu e = absurd e
 open-second Sltu e = by-itself (flip less) less-rises
+
+-- A value against itself: one class, and one result.
+
+less-itself : (x : ℕ) → less x x ≡ 0
+less-itself x = rw (le-ltb x x (omega arith))
+
+pub class-itself : (op : Operation) → WithItself op → (x : ℕ) → sortOf op x x ≡ 0
+unfolding sortOf
+class-itself Add i x = absurd i
+class-itself Sub i x = less-itself x
+class-itself Mul i x = absurd i
+class-itself Divu i x = absurd i
+class-itself Remu i x = absurd i
+class-itself Sltu i x = less-itself x
+
+pub result-itself : (op : Operation) → WithItself op → (x : ℕ) → x < size → operate op x x ≡ 0
+unfolding operate
+result-itself Add i x h = absurd i
+result-itself Sub i x h = omega arith
+result-itself Mul i x h = absurd i
+result-itself Divu i x h = absurd i
+result-itself Remu i x h = absurd i
+result-itself Sltu i x h = less-itself x
+
+pub comparison-itself : (x : ℕ) → comparison x x ≡ 1
+unfolding comparison
+comparison-itself x = rw (le-ltb x x (omega arith), eq-eqb x x refl)

@@ -7,10 +7,11 @@ use Rattle.boxes.specs.Boxes.{Choice, Box, Within}
 use Rattle.riscu.specs.Machine.{State}
 use Rattle.riscu.specs.declared.Instruction.{Instruction}
 use Rattle.listing.specs.Group.{Job, after, sortingOf}
+use Rattle.listing.specs.declared.Operand.{Operand}
 use Rattle.listing.specs.declared.Sorting.{Sorting}
 use Rattle.listing.specs.declared.Sorting.the-variants.{Operates, Compares, Nothing}
 use Rattle.corners.proofs.Tame.{same-within}
-use Rattle.corners.specs.Smooth.{OneSame, baseOf, BaseSame, OperandsSettled, Followed, Smooth}
+use Rattle.corners.specs.Smooth.{OneSame, baseOf, BaseSame, PairSettled, OperandsSettled, Followed, Smooth}
 
 -- what holds on a box holds on a box within it
 
@@ -22,9 +23,12 @@ module _ (a b : Box) (w : Within a b) where
   base-within s none h = tt
   base-within s (some r) h = same-within a b w h
 
+  pair-within : {E I : Type 0} (s : Choice → State) (x y : Operand) → PairSettled b s E I x y → PairSettled a s E I x y
+  pair-within s x y = ⊎-elim (λ o. inl (one-same-within o)) inr
+
   operands-within : (s : Choice → State) (x : Sorting) → OperandsSettled b s x → OperandsSettled a s x
-  operands-within s (Operates op x y) h = one-same-within h
-  operands-within s (Compares x y) h = one-same-within h
+  operands-within s (Operates op x y) h = pair-within s x y h
+  operands-within s (Compares x y) h = pair-within s x y h
   operands-within s Nothing h = tt
 
   pub followed-within : (j : Job) (n : ℕ) {i : Instruction} → Followed j b n i → Followed j a n i

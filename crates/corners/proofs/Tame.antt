@@ -26,6 +26,10 @@ same-within a b w h c d m n = h c d (w c m) (w d n)
 pub one-input-cong : {f g : Choice → ℕ} {i : ℕ} (b : Box) → ((c : Choice) → Inside c b → f c ≡ g c) → OneInput b i f → OneInput b i g
 one-input-cong b h = one-input-rise b (λ c d m n l. omega (arith, h c m, h d n))
 
+-- one number for every choice
+pub one-input-number : {f : Choice → ℕ} {i : ℕ} (n : ℕ) (b : Box) → ((c : Choice) → Inside c b → f c ≡ n) → OneInput b i f
+one-input-number n b h = one-input-constant b (λ c d m q. h c m ∙ sym (h d q))
+
 -- the tag of a result, the operands' tags being i and j: that of the second where the first is the same at both corners
 abbrev pub tagOf : Box → (Choice → ℕ) → ℕ → ℕ → ℕ
 tagOf b f i j = cond (eqb (f (lows b)) (f (highs b))) j i

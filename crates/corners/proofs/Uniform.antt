@@ -2,7 +2,7 @@
 -- one input that its tag names, at most.
 -- Assumes nothing.
 use mathlib.Core.Path.{_≡_, refl, sym, _∙_}
-use mathlib.Core.Logic.{inl}
+use mathlib.Core.Logic.{inl, ⊎-elim}
 use mathlib.Core.Bool.{Bool, true, false, cond, _&&_}
 use mathlib.Core.List.{List}
 use Prim.Native.Nat.{ℕ, zero, suc, _/_, _<_}
@@ -24,15 +24,15 @@ use Rattle.riscu.specs.declared.Instruction.{Instruction}
 use Rattle.riscu.specs.declared.Instruction.the-variants.{Lui, Addi, Register, Ld, Sd, Beq, Jal, Jalr, Ecall}
 use Rattle.riscu.specs.declared.Decoded.the-variants.{Row}
 use Rattle.riscu.proofs.Whole.{widen-word, start-whole, run-whole}
-use Rattle.listing.specs.Group.{Job, after, sortingOf, operand, classBy, classOf}
+use Rattle.listing.specs.Group.{Job, after, sortOf, comparison, sortingOf, operand, classBy, classOf}
 use Rattle.listing.specs.declared.Operand.{Operand}
 use Rattle.listing.specs.declared.Operand.the-variants.{InRegister, Constant}
 use Rattle.listing.specs.declared.Sorting.{Sorting}
 use Rattle.listing.specs.declared.Sorting.the-variants.{Operates, Compares, Nothing}
-use Rattle.corners.proofs.Operations.{comparison-equal}
-use Rattle.corners.proofs.Tame.{tagOf, one-input-cong, sort-one-input, comparison-one-input, result-one-input}
+use Rattle.corners.proofs.Operations.{comparison-equal, class-itself, result-itself, comparison-itself}
+use Rattle.corners.proofs.Tame.{tagOf, one-input-cong, one-input-number, sort-one-input, comparison-one-input, result-one-input}
 use Rattle.riscu.specs.Whole.{Whole}
-use Rattle.corners.specs.Smooth.{Same, OperandsSettled, Settled, Smooth}
+use Rattle.corners.specs.Smooth.{Same, OneSame, PairSettled, OperandsSettled, Settled, Smooth}
 use Rattle.corners.specs.Tags.{Tags, toRegister, tagIn, tagStep, tagBy, classTag, tagDecoded, tagsAt}
 use Rattle.corners.specs.Good.{Sound}
 
@@ -137,6 +137,14 @@ module _ {b : Box} (proper : Proper b) {s : Choice → State} {t : Tags} (whole 
   operand-word (InRegister r) w c h = whole c h .registers .words r
   operand-word (Constant n) w c h = w
 
+  -- a class or a result of two operands: of one register twice it is a number n
+  pair-one : {E I : Type 0} {i : ℕ} (h : ℕ → ℕ → ℕ) (n : ℕ) (x y : Operand)
+      → (OneSame E b (λ c. operand x (s c .registers)) (λ c. operand y (s c .registers))
+      → OneInput b i (λ c. h (operand x (s c .registers)) (operand y (s c .registers))))
+      → (I → (c : Choice) → Inside c b → h (operand x (s c .registers)) (operand x (s c .registers)) ≡ n)
+      → PairSettled b s E I x y → OneInput b i (λ c. h (operand x (s c .registers)) (operand y (s c .registers)))
+  pair-one h n x y p q = ⊎-elim p (λ (k, z). one-input-number n b (λ c m. rw (← z) (q k c m)))
+
   -- an operation into a register; register 0 takes none
   operated : (op : Operation) (rd : ℕ) (x y : Operand) {j : ℕ} → OneInput b j (λ c. operand y (s c .registers)) → WordIn x → WordIn y
       → OperandsSettled b s (cond (eqb rd 0) Nothing (Operates op x y))
@@ -147,8 +155,10 @@ module _ {b : Box} (proper : Proper b) {s : Choice → State} {t : Tags} (whole 
   operated op rd x y second p q o e =
       by-test (eqb rd 0)
       (λ z. rw z (record { pc = next-pc; reads = u .reads; registers = u .registers; memory = u .memory }))
-      (λ z. put-uniform rd (result-one-input b proper (operand-one x) second (λ c m. (operand-word x p c m, operand-word y q c m)) op
-      (rw z at o) (rw z at e)) next-pc)
+      (λ z. put-uniform rd (pair-one (operate op) 0 x y
+      (λ k. result-one-input b proper (operand-one x) second (λ c m. (operand-word x p c m, operand-word y q c m)) op k (rw z at e))
+      (λ k c m. result-itself op k (operand x (s c .registers)) (operand-word x p c m))
+      (rw z at o)) next-pc)
 
   pub step-uniform : (i : Instruction) → Settled b s i → Same b (λ c. classOf i (s c))
       → Uniform b (λ c. step c i (s c)) (tagStep (lows b) i (s (lows b)) (s (highs b)) t)
@@ -201,9 +211,13 @@ module _ {b : Box} (proper : Proper b) {s : Choice → State} {t : Tags} (whole 
       → OneInput b (tagBy x (s (lows b) .registers) (s (highs b) .registers) (t .registers)) (λ c. classBy x (s c .registers))
   unfolding tagBy classBy
   class-by (Operates op x y) (p, q) h =
-      sort-one-input b proper (operand-one x) (operand-one y) (λ c m. (operand-word x p c m, operand-word y q c m)) op h
+      pair-one (sortOf op) 0 x y
+      (sort-one-input b proper (operand-one x) (operand-one y) (λ c m. (operand-word x p c m, operand-word y q c m)) op)
+      (λ k c m. class-itself op k (operand x (s c .registers))) h
   class-by (Compares x y) (p, q) h =
-      comparison-one-input b proper (operand-one x) (operand-one y) (λ c m. (operand-word x p c m, operand-word y q c m)) h
+      pair-one comparison 1 x y
+      (comparison-one-input b proper (operand-one x) (operand-one y) (λ c m. (operand-word x p c m, operand-word y q c m)))
+      (λ k c m. comparison-itself (operand x (s c .registers))) h
   class-by Nothing w h = constant (λ c d m n. refl)
 
   pub class-uniform : (i : Instruction) → Settled b s i → OneInput b (classTag i (s (lows b)) (s (highs b)) t) (λ c. classOf i (s c))

@@ -12,6 +12,7 @@ use Rattle.riscu.specs.declared.Instruction.the-variants.{Lui, Addi, Register, 
 use Rattle.riscu.specs.declared.Decoded.the-variants.{Row}
 use Rattle.listing.specs.Group.{Job, after, sortingOf, operand, classOf}
 use Rattle.listing.specs.Ending.{lastAddress}
+use Rattle.listing.specs.declared.Operand.{Operand}
 use Rattle.listing.specs.declared.Sorting.{Sorting}
 use Rattle.listing.specs.declared.Sorting.the-variants.{Operates, Compares, Nothing}
 
@@ -31,6 +32,15 @@ EitherOpen Mul = Unit {0}
 EitherOpen Divu = ⊥
 EitherOpen Remu = ⊥
 EitherOpen Sltu = Unit {0}
+
+-- the operations that are followed with one open register twice (document 02, No. 1)
+abbrev pub WithItself : Operation → Type 0
+WithItself Add = ⊥
+WithItself Sub = Unit {0}
+WithItself Mul = ⊥
+WithItself Divu = ⊥
+WithItself Remu = ⊥
+WithItself Sltu = Unit {0}
 
 abbrev pub DataAddress : ℕ → Type 0
 DataAddress a = (a % 8 ≡ 0) × (a ≤ lastAddress)
@@ -84,10 +94,14 @@ module _ (b : Box) (s : Choice → State) where
   BaseSame none = Unit {0}
   BaseSame (some r) = Same b (λ c. reg r (s c))
 
+  -- one of two operands is fixed, or both are one register where that is followed
+  abbrev pub PairSettled : Type 0 → Type 0 → Operand → Operand → Type 0
+  PairSettled E I x y = OneSame E b (λ c. operand x (s c .registers)) (λ c. operand y (s c .registers)) ⊎ (I × (x ≡ y))
+
   -- points 7 and 8, but for the reasons 2, 3 and 5
   abbrev pub OperandsSettled : Sorting → Type 0
-  OperandsSettled (Operates op x y) = OneSame (EitherOpen op) b (λ c. operand x (s c .registers)) (λ c. operand y (s c .registers))
-  OperandsSettled (Compares x y) = OneSame (Unit {0}) b (λ c. operand x (s c .registers)) (λ c. operand y (s c .registers))
+  OperandsSettled (Operates op x y) = PairSettled (EitherOpen op) (WithItself op) x y
+  OperandsSettled (Compares x y) = PairSettled (Unit {0}) (Unit {0}) x y
   OperandsSettled Nothing = Unit {0}
 
   -- the values that must be fixed are

@@ -18,12 +18,12 @@ ghost use mathlib.Core.Path.{_≡_};
 ghost use Prim.Native.Nat.{_+_, min, max};
 ghost use lib.Dec.{ltb};
 ghost use lib.IntN.{pos};
-ghost use Rattle.riscu.specs.declared.Operation.the-variants.{Mul, Divu, Remu};
+ghost use Rattle.riscu.specs.declared.Operation.the-variants.{Add, Mul, Divu, Remu};
 ghost use Rattle.riscu.specs.declared.Instruction.the-variants.{Register, Ld, Jalr, Ecall};
 ghost use Rattle.listing.specs.declared.Operand.the-variants.{InRegister};
 ghost use Rattle.listing.specs.declared.Sorting.the-variants.{Compares};
-ghost use Rattle.listing.specs.Ending.{openAt, valueAt, badAccess, callOpen, badCall, badRead, operandOpen, operandValue, bothOpen};
-ghost use Rattle.listing.specs.Ending.{zeroDivisor, oddMultiplier, oddDivisor, farApart, divisorPoints, operationPoints};
+ghost use Rattle.listing.specs.Ending.{openAt, valueAt, badAccess, callOpen, badCall, badRead, sameRegister, operandOpen, operandValue};
+ghost use Rattle.listing.specs.Ending.{bothOpen, twoOpen, zeroDivisor, oddMultiplier, oddDivisor, farApart, divisorPoints, operationPoints};
 ghost use Rattle.listing.specs.Ending.{operandPoints, addressPoints, points};
 ghost use Rattle.decide.specs.Corner.{cornerView, verdict};
 
@@ -165,6 +165,35 @@ fn both_open(low: &Registers, high: &Registers, a: Operand, b: Operand) -> bool
     y & x
 }
 
+// An operand is the register r.
+fn is_register(r: usize, o: Operand) -> bool
+    ensures { λ b. ⌜ b ≡ sameRegister (InRegister r) o ⌝ }
+{
+    match o {
+        Operand::InRegister(q) => r == q,
+        Operand::Constant(_) => false,
+    }
+}
+
+// One register twice.
+fn same_register(a: Operand, b: Operand) -> bool
+    ensures { λ r. ⌜ r ≡ sameRegister a b ⌝ }
+{
+    match a {
+        Operand::InRegister(r) => is_register(r, b),
+        Operand::Constant(_) => false,
+    }
+}
+
+// Both operands are open, and they are not one register twice.
+fn two_open(low: &Registers, high: &Registers, a: Operand, b: Operand) -> bool
+    ensures { λ r. ⌜ r ≡ twoOpen (cornerView (now (low .entry)) (now (high .entry))) a b ⌝ }
+{
+    let x = both_open(low, high, a, b);
+    let y = same_register(a, b);
+    x & !y
+}
+
 // a is neither 0 nor a power of two, and b is open.
 fn multiplier(low: &Registers, high: &Registers, a: Operand, b: Operand) -> bool
     ensures { λ r. ⌜ r ≡ oddMultiplier (cornerView (now (low .entry)) (now (high .entry))) a b ⌝ }
@@ -215,10 +244,20 @@ fn quotients(op: Operation, low: &Registers, high: &Registers, a: Operand, b: Op
     apart(x, y)
 }
 
+fn sum_points(low: &Registers, high: &Registers, a: Operand, b: Operand) -> Verdict
+    ensures { λ r. ⌜ r ≡ verdict (operationPoints (cornerView (now (low .entry)) (now (high .entry))) Add a b) ⌝ }
+{
+    if both_open(low, high, a, b) {
+        return Verdict::Ends(End::NotFollowed(Reason::BothOpen));
+    }
+    Verdict::Passes
+}
+
+// SUB, SLTU and BEQ: one register twice is followed.
 fn open_operands(low: &Registers, high: &Registers, a: Operand, b: Operand) -> Verdict
     ensures { λ r. ⌜ r ≡ verdict (operandPoints (cornerView (now (low .entry)) (now (high .entry))) (Compares a b)) ⌝ }
 {
-    if both_open(low, high, a, b) {
+    if two_open(low, high, a, b) {
         return Verdict::Ends(End::NotFollowed(Reason::BothOpen));
     }
     Verdict::Passes
@@ -291,7 +330,7 @@ fn operation_points(
     ensures { λ r. ⌜ r ≡ verdict (operationPoints (cornerView (now (low .entry)) (now (high .entry))) op a b) ⌝ }
 {
     match op {
-        Operation::Add => open_operands(low, high, a, b),
+        Operation::Add => sum_points(low, high, a, b),
         Operation::Sub => open_operands(low, high, a, b),
         Operation::Mul => product_points(low, high, a, b),
         Operation::Divu => quotient_points(low, high, a, b),

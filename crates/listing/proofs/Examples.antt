@@ -1,5 +1,5 @@
 -- Small jobs with their whole listings, computed by the moves over all the choices of a box. The program host/listings.rs
--- writes this file: what is expected comes from the brute-force oracle there, which knows document 01 alone.
+-- writes this file: what is expected comes from the brute-force oracle there, which knows documents 01 and 02 alone.
 -- Assumes nothing.
 use mathlib.Core.Path.{_≡_, refl}
 use mathlib.Core.List.{List, [], _∷_, _++_, map, flatMap}
@@ -170,18 +170,8 @@ operands =
     [] 20 ((3 ⋯ 6) ∷ []) 40
     (path (NotFollowed BothOpen) 16 4 ((3 ⋯ 6) ∷ []) 1 ((5, 3 ⋯ 6) ∷ (10, 8 ⋯ 8) ∷ (12, 8 ⋯ 8) ∷ (17, 63 ⋯ 63) ∷ [])
     ∷ [])
-    -- SUB of one open register twice
-    ∷ example (reads (0x40528533 ∷ []))
-    [] 20 ((3 ⋯ 6) ∷ []) 40
-    (path (NotFollowed BothOpen) 16 4 ((3 ⋯ 6) ∷ []) 1 ((5, 3 ⋯ 6) ∷ (10, 8 ⋯ 8) ∷ (12, 8 ⋯ 8) ∷ (17, 63 ⋯ 63) ∷ [])
-    ∷ [])
     -- MUL of one open register twice
     ∷ example (reads (0x02528533 ∷ []))
-    [] 20 ((3 ⋯ 6) ∷ []) 40
-    (path (NotFollowed BothOpen) 16 4 ((3 ⋯ 6) ∷ []) 1 ((5, 3 ⋯ 6) ∷ (10, 8 ⋯ 8) ∷ (12, 8 ⋯ 8) ∷ (17, 63 ⋯ 63) ∷ [])
-    ∷ [])
-    -- BEQ of one open register twice
-    ∷ example (reads (0x00528463 ∷ []))
     [] 20 ((3 ⋯ 6) ∷ []) 40
     (path (NotFollowed BothOpen) 16 4 ((3 ⋯ 6) ∷ []) 1 ((5, 3 ⋯ 6) ∷ (10, 8 ⋯ 8) ∷ (12, 8 ⋯ 8) ∷ (17, 63 ⋯ 63) ∷ [])
     ∷ [])
@@ -741,6 +731,271 @@ few-entries =
     ∷ [])
     ∷ []
 
+-- SUB, SLTU and BEQ of one register twice
+abbrev pub same-register : List (Job × List Path)
+same-register =
+    -- SUB of one open register twice
+    example (reads (0x40528533 ∷ []))
+    [] 20 ((3 ⋯ 6) ∷ []) 40
+    (path Exit 24 6 ((3 ⋯ 6) ∷ []) 1 ((5, 3 ⋯ 6) ∷ (12, 8 ⋯ 8) ∷ (17, 93 ⋯ 93) ∷ [])
+    ∷ [])
+    -- SLTU of one open register twice
+    ∷ example (reads (0x0052B533 ∷ []))
+    [] 20 ((3 ⋯ 6) ∷ []) 40
+    (path Exit 24 6 ((3 ⋯ 6) ∷ []) 1 ((5, 3 ⋯ 6) ∷ (12, 8 ⋯ 8) ∷ (17, 93 ⋯ 93) ∷ [])
+    ∷ [])
+    -- BEQ of one open register twice
+    ∷ example (reads (0x00528463 ∷ 0x00100513 ∷ []))
+    [] 20 ((3 ⋯ 6) ∷ []) 40
+    (path Exit 28 6 ((3 ⋯ 6) ∷ []) 1 ((5, 3 ⋯ 6) ∷ (10, 8 ⋯ 8) ∷ (12, 8 ⋯ 8) ∷ (17, 93 ⋯ 93) ∷ [])
+    ∷ [])
+    -- BEQ of one open register twice, over two words
+    ∷ example (reads (0x00528663 ∷ 0x00000000 ∷ 0x00000000 ∷ []))
+    [] 20 ((3 ⋯ 6) ∷ []) 40
+    (path Exit 32 6 ((3 ⋯ 6) ∷ []) 1 ((5, 3 ⋯ 6) ∷ (10, 8 ⋯ 8) ∷ (12, 8 ⋯ 8) ∷ (17, 93 ⋯ 93) ∷ [])
+    ∷ [])
+    -- BEQ of one open register twice, to half a word
+    ∷ example (reads (0x00528363 ∷ []))
+    [] 20 ((3 ⋯ 6) ∷ []) 40
+    (path BadPc 22 5 ((3 ⋯ 6) ∷ []) 1 ((5, 3 ⋯ 6) ∷ (10, 8 ⋯ 8) ∷ (12, 8 ⋯ 8) ∷ (17, 63 ⋯ 63) ∷ [])
+    ∷ [])
+    -- SUB of one register twice, then LD
+    ∷ example (reads (0x40528333 ∷ 0x01033503 ∷ []))
+    (0 ∷ 0 ∷ 7 ∷ []) 20 ((3 ⋯ 6) ∷ []) 40
+    (path Exit 28 7 ((3 ⋯ 6) ∷ []) 1 ((5, 3 ⋯ 6) ∷ (10, 7 ⋯ 7) ∷ (12, 8 ⋯ 8) ∷ (17, 93 ⋯ 93) ∷ [])
+    ∷ [])
+    -- SLTU of one register twice, then LD
+    ∷ example (reads (0x0052B333 ∷ 0x01033503 ∷ []))
+    (0 ∷ 0 ∷ 7 ∷ []) 20 ((3 ⋯ 6) ∷ []) 40
+    (path Exit 28 7 ((3 ⋯ 6) ∷ []) 1 ((5, 3 ⋯ 6) ∷ (10, 7 ⋯ 7) ∷ (12, 8 ⋯ 8) ∷ (17, 93 ⋯ 93) ∷ [])
+    ∷ [])
+    -- SUB of one register twice, then ADD
+    ∷ example (reads (0x40528333 ∷ 0x00530533 ∷ []))
+    [] 20 ((3 ⋯ 6) ∷ []) 40
+    (path Exit 28 7 ((3 ⋯ 6) ∷ []) 1 ((5, 3 ⋯ 6) ∷ (10, 3 ⋯ 6) ∷ (12, 8 ⋯ 8) ∷ (17, 93 ⋯ 93) ∷ [])
+    ∷ [])
+    -- SLTU of one register twice, then MUL
+    ∷ example (reads (0x0052B333 ∷ 0x02628533 ∷ []))
+    [] 20 ((3 ⋯ 6) ∷ []) 40
+    (path Exit 28 7 ((3 ⋯ 6) ∷ []) 1 ((5, 3 ⋯ 6) ∷ (12, 8 ⋯ 8) ∷ (17, 93 ⋯ 93) ∷ [])
+    ∷ [])
+    -- SUB of one register twice, then DIVU
+    ∷ example (reads (0x40528333 ∷ 0x0262D533 ∷ []))
+    [] 20 ((3 ⋯ 6) ∷ []) 40
+    (path DivisionByZero 20 5 ((3 ⋯ 6) ∷ []) 1 ((5, 3 ⋯ 6) ∷ (10, 8 ⋯ 8) ∷ (12, 8 ⋯ 8) ∷ (17, 63 ⋯ 63) ∷ [])
+    ∷ [])
+    -- SUB of one register twice, then a fork
+    ∷ example (reads (0x40528333 ∷ 0x00530313 ∷ 0x0062B533 ∷ []))
+    [] 20 ((3 ⋯ 6) ∷ []) 40
+    (path Exit 32 8 ((3 ⋯ 4) ∷ []) 1 ((5, 3 ⋯ 4) ∷ (6, 5 ⋯ 5) ∷ (10, 1 ⋯ 1) ∷ (12, 8 ⋯ 8) ∷ (17, 93 ⋯ 93) ∷ [])
+    ∷ path Exit 32 8 ((5 ⋯ 6) ∷ []) 1 ((5, 5 ⋯ 6) ∷ (6, 5 ⋯ 5) ∷ (12, 8 ⋯ 8) ∷ (17, 93 ⋯ 93) ∷ [])
+    ∷ [])
+    -- SLTU of one register twice, then a fork
+    ∷ example (reads (0x0052B333 ∷ 0x00628463 ∷ 0x00100513 ∷ []))
+    [] 20 ((0 ⋯ 3) ∷ []) 40
+    (path Exit 32 7 ((0 ⋯ 0) ∷ []) 1 ((10, 8 ⋯ 8) ∷ (12, 8 ⋯ 8) ∷ (17, 93 ⋯ 93) ∷ [])
+    ∷ path Exit 32 8 ((1 ⋯ 3) ∷ []) 1 ((5, 1 ⋯ 3) ∷ (10, 1 ⋯ 1) ∷ (12, 8 ⋯ 8) ∷ (17, 93 ⋯ 93) ∷ [])
+    ∷ [])
+    -- BEQ of one register twice, then a fork
+    ∷ example (reads (0x00528463 ∷ 0x00000000 ∷ 0x00500313 ∷ 0x0062B533 ∷ []))
+    [] 20 ((3 ⋯ 6) ∷ []) 40
+    (path Exit 36 8 ((3 ⋯ 4) ∷ []) 1 ((5, 3 ⋯ 4) ∷ (6, 5 ⋯ 5) ∷ (10, 1 ⋯ 1) ∷ (12, 8 ⋯ 8) ∷ (17, 93 ⋯ 93) ∷ [])
+    ∷ path Exit 36 8 ((5 ⋯ 6) ∷ []) 1 ((5, 5 ⋯ 6) ∷ (6, 5 ⋯ 5) ∷ (12, 8 ⋯ 8) ∷ (17, 93 ⋯ 93) ∷ [])
+    ∷ [])
+    -- SUB of one register twice, into itself
+    ∷ example (reads (0x405282B3 ∷ 0x00128513 ∷ []))
+    [] 20 ((3 ⋯ 6) ∷ []) 40
+    (path Exit 28 7 ((3 ⋯ 6) ∷ []) 1 ((10, 1 ⋯ 1) ∷ (12, 8 ⋯ 8) ∷ (17, 93 ⋯ 93) ∷ [])
+    ∷ [])
+    -- SLTU of one register twice, into itself
+    ∷ example (reads (0x0052B2B3 ∷ 0x00128513 ∷ []))
+    [] 20 ((3 ⋯ 6) ∷ []) 40
+    (path Exit 28 7 ((3 ⋯ 6) ∷ []) 1 ((10, 1 ⋯ 1) ∷ (12, 8 ⋯ 8) ∷ (17, 93 ⋯ 93) ∷ [])
+    ∷ [])
+    -- one falling register twice
+    ∷ example (reads (0x40500333 ∷ 0x00630463 ∷ 0x00100313 ∷ 0x40630533 ∷ []))
+    [] 20 ((1 ⋯ 4) ∷ []) 40
+    (path Exit 36 8 ((1 ⋯ 4) ∷ []) 1 ((5, 1 ⋯ 4) ∷ (6, (top - 3) ⋯ top) ∷ (12, 8 ⋯ 8) ∷ (17, 93 ⋯ 93) ∷ [])
+    ∷ [])
+    -- one of two inputs twice
+    ∷ example (reads (0x00000513 ∷ 0x00800593 ∷ 0x00000073 ∷ 0x00803383 ∷ 0x407383B3 ∷ 0x00538533 ∷ []))
+    [] 20 ((3 ⋯ 4) ∷ (4 ⋯ 5) ∷ []) 40
+    (path Exit 44 11 ((3 ⋯ 4) ∷ (4 ⋯ 5) ∷ []) 2 ((5, 3 ⋯ 4) ∷ (10, 3 ⋯ 4) ∷ (11, 8 ⋯ 8) ∷ (12, 8 ⋯ 8) ∷ (17, 93 ⋯ 93)
+    ∷ [])
+    ∷ [])
+    -- SUB of one register twice, then read
+    ∷ example (reads (0x40528533 ∷ 0x00000073 ∷ 0x00003503 ∷ []))
+    [] 20 ((3 ⋯ 4) ∷ (8 ⋯ 9) ∷ []) 40
+    (path Exit 32 8 ((3 ⋯ 4) ∷ (8 ⋯ 9) ∷ []) 2 ((5, 3 ⋯ 4) ∷ (10, 8 ⋯ 9) ∷ (12, 8 ⋯ 8) ∷ (17, 93 ⋯ 93) ∷ [])
+    ∷ [])
+    ∷ []
+
+-- one register twice in loops
+abbrev pub same-in-loops : List (Job × List Path)
+same-in-loops =
+    -- BEQ of one register twice, to itself
+    example (reads (0x00528063 ∷ []))
+    [] 12 ((3 ⋯ 6) ∷ []) 5
+    (path StepLimit 16 12 ((3 ⋯ 6) ∷ []) 1 ((5, 3 ⋯ 6) ∷ (10, 8 ⋯ 8) ∷ (12, 8 ⋯ 8) ∷ (17, 63 ⋯ 63) ∷ [])
+    ∷ [])
+    -- BEQ of one register twice, back
+    ∷ example (reads (0x00150513 ∷ 0xFE528EE3 ∷ []))
+    [] 12 ((3 ⋯ 6) ∷ []) 40
+    (path StepLimit 16 12 ((3 ⋯ 6) ∷ []) 1 ((5, 3 ⋯ 6) ∷ (10, 12 ⋯ 12) ∷ (12, 8 ⋯ 8) ∷ (17, 63 ⋯ 63) ∷ [])
+    ∷ [])
+    -- BEQ of one register twice, back to a fork
+    ∷ example (reads (0x00628663 ∷ 0x00130313 ∷ 0xFE528CE3 ∷ 0x00030513 ∷ []))
+    [] 20 ((0 ⋯ 3) ∷ []) 40
+    (path Exit 36 7 ((0 ⋯ 0) ∷ []) 1 ((12, 8 ⋯ 8) ∷ (17, 93 ⋯ 93) ∷ [])
+    ∷ path Exit 36 10 ((1 ⋯ 1) ∷ []) 1 ((5, 1 ⋯ 1) ∷ (6, 1 ⋯ 1) ∷ (10, 1 ⋯ 1) ∷ (12, 8 ⋯ 8) ∷ (17, 93 ⋯ 93) ∷ [])
+    ∷ path Exit 36 13 ((2 ⋯ 2) ∷ []) 1 ((5, 2 ⋯ 2) ∷ (6, 2 ⋯ 2) ∷ (10, 2 ⋯ 2) ∷ (12, 8 ⋯ 8) ∷ (17, 93 ⋯ 93) ∷ [])
+    ∷ path Exit 36 16 ((3 ⋯ 3) ∷ []) 1 ((5, 3 ⋯ 3) ∷ (6, 3 ⋯ 3) ∷ (10, 3 ⋯ 3) ∷ (12, 8 ⋯ 8) ∷ (17, 93 ⋯ 93) ∷ [])
+    ∷ [])
+    -- SUB of one register twice, two turns
+    ∷ example (reads (0x00200393 ∷ 0x40528333 ∷ 0xFFF38393 ∷ 0x00638463 ∷ 0xFE528AE3 ∷ []))
+    [] 20 ((3 ⋯ 6) ∷ []) 40
+    (path Exit 40 13 ((3 ⋯ 6) ∷ []) 1 ((5, 3 ⋯ 6) ∷ (10, 8 ⋯ 8) ∷ (12, 8 ⋯ 8) ∷ (17, 93 ⋯ 93) ∷ [])
+    ∷ [])
+    -- SLTU of one register twice, two turns with a fork
+    ∷ example (reads (0x00200393 ∷ 0x0052B333 ∷ 0x00530313 ∷ 0x0062B533 ∷ 0xFFF38393 ∷ 0x00038463 ∷ 0xFEDFF06F ∷ []))
+    [] 20 ((3 ⋯ 6) ∷ []) 40
+    (path Exit 48 17 ((3 ⋯ 4) ∷ []) 1 ((5, 3 ⋯ 4) ∷ (6, 5 ⋯ 5) ∷ (10, 1 ⋯ 1) ∷ (12, 8 ⋯ 8) ∷ (17, 93 ⋯ 93) ∷ [])
+    ∷ path Exit 48 17 ((5 ⋯ 6) ∷ []) 1 ((5, 5 ⋯ 6) ∷ (6, 5 ⋯ 5) ∷ (12, 8 ⋯ 8) ∷ (17, 93 ⋯ 93) ∷ [])
+    ∷ [])
+    ∷ []
+
+-- one register twice and the entries
+abbrev pub same-entries : List (Job × List Path)
+same-entries =
+    -- SUB of one register twice, no entry left
+    example (reads (0x40528533 ∷ []))
+    [] 20 ((3 ⋯ 6) ∷ []) 5
+    (path TraceFull 16 4 ((3 ⋯ 6) ∷ []) 1 ((5, 3 ⋯ 6) ∷ (10, 8 ⋯ 8) ∷ (12, 8 ⋯ 8) ∷ (17, 63 ⋯ 63) ∷ [])
+    ∷ [])
+    -- SUB of one register twice, one entry left
+    ∷ example (reads (0x40528533 ∷ []))
+    [] 20 ((3 ⋯ 6) ∷ []) 6
+    (path TraceFull 20 5 ((3 ⋯ 6) ∷ []) 1 ((5, 3 ⋯ 6) ∷ (12, 8 ⋯ 8) ∷ (17, 63 ⋯ 63) ∷ [])
+    ∷ [])
+    -- SLTU of one register twice, no entry left
+    ∷ example (reads (0x0052B533 ∷ []))
+    [] 20 ((3 ⋯ 6) ∷ []) 5
+    (path TraceFull 16 4 ((3 ⋯ 6) ∷ []) 1 ((5, 3 ⋯ 6) ∷ (10, 8 ⋯ 8) ∷ (12, 8 ⋯ 8) ∷ (17, 63 ⋯ 63) ∷ [])
+    ∷ [])
+    -- SLTU of one register twice, one entry left
+    ∷ example (reads (0x0052B533 ∷ []))
+    [] 20 ((3 ⋯ 6) ∷ []) 6
+    (path TraceFull 20 5 ((3 ⋯ 6) ∷ []) 1 ((5, 3 ⋯ 6) ∷ (12, 8 ⋯ 8) ∷ (17, 63 ⋯ 63) ∷ [])
+    ∷ [])
+    -- BEQ of one register twice, no entry left
+    ∷ example (reads (0x00528463 ∷ 0x00000000 ∷ []))
+    [] 20 ((3 ⋯ 6) ∷ []) 5
+    (path TraceFull 24 5 ((3 ⋯ 6) ∷ []) 1 ((5, 3 ⋯ 6) ∷ (10, 8 ⋯ 8) ∷ (12, 8 ⋯ 8) ∷ (17, 63 ⋯ 63) ∷ [])
+    ∷ [])
+    -- one register twice into register 0
+    ∷ example (reads (0x40528033 ∷ 0x0052B033 ∷ 0x02528033 ∷ 0x0252F033 ∷ []))
+    [] 20 ((3 ⋯ 6) ∷ []) 6
+    (path Exit 36 9 ((3 ⋯ 6) ∷ []) 1 ((5, 3 ⋯ 6) ∷ (10, 8 ⋯ 8) ∷ (12, 8 ⋯ 8) ∷ (17, 93 ⋯ 93) ∷ [])
+    ∷ [])
+    ∷ []
+
+-- one register twice by document 01
+abbrev pub same-as-before : List (Job × List Path)
+same-as-before =
+    -- DIVU of one open register twice
+    example (reads (0x0252D533 ∷ []))
+    [] 20 ((0 ⋯ 3) ∷ []) 40
+    (path (NotFollowed DivisorOpen) 16 4 ((0 ⋯ 3) ∷ []) 1 ((5, 0 ⋯ 3) ∷ (10, 8 ⋯ 8) ∷ (12, 8 ⋯ 8) ∷ (17, 63 ⋯ 63) ∷ [])
+    ∷ [])
+    -- REMU of one open register twice
+    ∷ example (reads (0x0252F533 ∷ []))
+    [] 20 ((0 ⋯ 3) ∷ []) 40
+    (path (NotFollowed DivisorOpen) 16 4 ((0 ⋯ 3) ∷ []) 1 ((5, 0 ⋯ 3) ∷ (10, 8 ⋯ 8) ∷ (12, 8 ⋯ 8) ∷ (17, 63 ⋯ 63) ∷ [])
+    ∷ [])
+    -- SUB of one open value in two registers
+    ∷ example (reads (0x00003303 ∷ 0x40628533 ∷ []))
+    [] 20 ((3 ⋯ 6) ∷ []) 40
+    (path (NotFollowed BothOpen) 20 5 ((3 ⋯ 6) ∷ []) 1 ((5, 3 ⋯ 6) ∷ (6, 3 ⋯ 6) ∷ (10, 8 ⋯ 8) ∷ (12, 8 ⋯ 8)
+    ∷ (17, 63 ⋯ 63) ∷ [])
+    ∷ [])
+    -- SLTU of one open value in two registers
+    ∷ example (reads (0x00003303 ∷ 0x0062B533 ∷ []))
+    [] 20 ((3 ⋯ 6) ∷ []) 40
+    (path (NotFollowed BothOpen) 20 5 ((3 ⋯ 6) ∷ []) 1 ((5, 3 ⋯ 6) ∷ (6, 3 ⋯ 6) ∷ (10, 8 ⋯ 8) ∷ (12, 8 ⋯ 8)
+    ∷ (17, 63 ⋯ 63) ∷ [])
+    ∷ [])
+    -- BEQ of one open value in two registers
+    ∷ example (reads (0x00003303 ∷ 0x00628463 ∷ []))
+    [] 20 ((3 ⋯ 6) ∷ []) 40
+    (path (NotFollowed BothOpen) 20 5 ((3 ⋯ 6) ∷ []) 1 ((5, 3 ⋯ 6) ∷ (6, 3 ⋯ 6) ∷ (10, 8 ⋯ 8) ∷ (12, 8 ⋯ 8)
+    ∷ (17, 63 ⋯ 63) ∷ [])
+    ∷ [])
+    -- SUB of one fixed register twice
+    ∷ example (reads (0x40528533 ∷ []))
+    [] 20 ((5 ⋯ 5) ∷ []) 40
+    (path Exit 24 6 ((5 ⋯ 5) ∷ []) 1 ((5, 5 ⋯ 5) ∷ (12, 8 ⋯ 8) ∷ (17, 93 ⋯ 93) ∷ [])
+    ∷ [])
+    -- MUL of one fixed register twice
+    ∷ example (reads (0x02528533 ∷ []))
+    [] 20 ((5 ⋯ 5) ∷ []) 40
+    (path Exit 24 6 ((5 ⋯ 5) ∷ []) 1 ((5, 5 ⋯ 5) ∷ (10, 25 ⋯ 25) ∷ (12, 8 ⋯ 8) ∷ (17, 93 ⋯ 93) ∷ [])
+    ∷ [])
+    -- DIVU of one fixed register twice
+    ∷ example (reads (0x0252D533 ∷ []))
+    [] 20 ((5 ⋯ 5) ∷ []) 40
+    (path Exit 24 6 ((5 ⋯ 5) ∷ []) 1 ((5, 5 ⋯ 5) ∷ (10, 1 ⋯ 1) ∷ (12, 8 ⋯ 8) ∷ (17, 93 ⋯ 93) ∷ [])
+    ∷ [])
+    -- REMU of one fixed register twice
+    ∷ example (reads (0x0252F533 ∷ []))
+    [] 20 ((5 ⋯ 5) ∷ []) 40
+    (path Exit 24 6 ((5 ⋯ 5) ∷ []) 1 ((5, 5 ⋯ 5) ∷ (12, 8 ⋯ 8) ∷ (17, 93 ⋯ 93) ∷ [])
+    ∷ [])
+    -- SLTU of one fixed register twice
+    ∷ example (reads (0x0052B533 ∷ []))
+    [] 20 ((5 ⋯ 5) ∷ []) 40
+    (path Exit 24 6 ((5 ⋯ 5) ∷ []) 1 ((5, 5 ⋯ 5) ∷ (12, 8 ⋯ 8) ∷ (17, 93 ⋯ 93) ∷ [])
+    ∷ [])
+    -- BEQ of one fixed register twice
+    ∷ example (reads (0x00528463 ∷ 0x00100513 ∷ []))
+    [] 20 ((5 ⋯ 5) ∷ []) 40
+    (path Exit 28 6 ((5 ⋯ 5) ∷ []) 1 ((5, 5 ⋯ 5) ∷ (10, 8 ⋯ 8) ∷ (12, 8 ⋯ 8) ∷ (17, 93 ⋯ 93) ∷ [])
+    ∷ [])
+    -- DIVU of one register twice that is 0
+    ∷ example (reads (0x0252D533 ∷ []))
+    [] 20 ((0 ⋯ 0) ∷ []) 40
+    (path DivisionByZero 16 4 ((0 ⋯ 0) ∷ []) 1 ((10, 8 ⋯ 8) ∷ (12, 8 ⋯ 8) ∷ (17, 63 ⋯ 63) ∷ [])
+    ∷ [])
+    -- MUL of one register twice where a fork fixed it
+    ∷ example (reads (0x00500313 ∷ 0x00628263 ∷ 0x02528533 ∷ []))
+    [] 20 ((3 ⋯ 6) ∷ []) 40
+    (path (NotFollowed BothOpen) 24 6 ((3 ⋯ 4) ∷ []) 1 ((5, 3 ⋯ 4) ∷ (6, 5 ⋯ 5) ∷ (10, 8 ⋯ 8) ∷ (12, 8 ⋯ 8)
+    ∷ (17, 63 ⋯ 63) ∷ [])
+    ∷ path Exit 32 8 ((5 ⋯ 5) ∷ []) 1 ((5, 5 ⋯ 5) ∷ (6, 5 ⋯ 5) ∷ (10, 25 ⋯ 25) ∷ (12, 8 ⋯ 8) ∷ (17, 93 ⋯ 93) ∷ [])
+    ∷ path Exit 32 8 ((6 ⋯ 6) ∷ []) 1 ((5, 6 ⋯ 6) ∷ (6, 5 ⋯ 5) ∷ (10, 36 ⋯ 36) ∷ (12, 8 ⋯ 8) ∷ (17, 93 ⋯ 93) ∷ [])
+    ∷ [])
+    -- ADD of one register twice, a fixed quotient
+    ∷ example (reads (0x00400313 ∷ 0x0262D3B3 ∷ 0x00738533 ∷ []))
+    [] 20 ((4 ⋯ 7) ∷ []) 40
+    (path Exit 32 8 ((4 ⋯ 7) ∷ []) 1 ((5, 4 ⋯ 7) ∷ (6, 4 ⋯ 4) ∷ (7, 1 ⋯ 1) ∷ (10, 2 ⋯ 2) ∷ (12, 8 ⋯ 8) ∷ (17, 93 ⋯ 93)
+    ∷ [])
+    ∷ [])
+    -- SUB of register 0 twice
+    ∷ example (reads (0x40000533 ∷ []))
+    [] 20 ((3 ⋯ 6) ∷ []) 40
+    (path Exit 24 6 ((3 ⋯ 6) ∷ []) 1 ((5, 3 ⋯ 6) ∷ (12, 8 ⋯ 8) ∷ (17, 93 ⋯ 93) ∷ [])
+    ∷ [])
+    -- SLTU of register 0 twice
+    ∷ example (reads (0x00003533 ∷ []))
+    [] 20 ((3 ⋯ 6) ∷ []) 40
+    (path Exit 24 6 ((3 ⋯ 6) ∷ []) 1 ((5, 3 ⋯ 6) ∷ (12, 8 ⋯ 8) ∷ (17, 93 ⋯ 93) ∷ [])
+    ∷ [])
+    -- BEQ of register 0 twice
+    ∷ example (reads (0x00000463 ∷ 0x00100513 ∷ []))
+    [] 20 ((3 ⋯ 6) ∷ []) 40
+    (path Exit 28 6 ((3 ⋯ 6) ∷ []) 1 ((5, 3 ⋯ 6) ∷ (10, 8 ⋯ 8) ∷ (12, 8 ⋯ 8) ∷ (17, 93 ⋯ 93) ∷ [])
+    ∷ [])
+    ∷ []
+
 abbrev pub table : List (Job × List Path)
 table =
     endings
@@ -754,6 +1009,10 @@ table =
     ++ stored
     ++ slips
     ++ few-entries
+    ++ same-register
+    ++ same-in-loops
+    ++ same-entries
+    ++ same-as-before
 
 abbrev listed : Job × List Path → List Path
 listed x = listing (x .0)

@@ -1,4 +1,5 @@
 -- How a path ends: document 01's ten points, in its order. The first that applies decides, with the first reason named there.
+-- Point 8 is as document 02, No. 1, has it: of one register twice SUB, SLTU and BEQ go on; ADD and MUL do not.
 use Prim.Native.Nat.{ℕ, _+_, _-_, _%_}
 use mathlib.Core.Bool.{Bool, true, false, cond, not, _&&_, _||_}
 use mathlib.Core.List.{List, [], _∷_, _++_}
@@ -54,6 +55,12 @@ lastAddress = 4088
 abbrev pub badAddress : ℕ → Bool
 badAddress a = not (eqb (a % 8) 0) || ltb lastAddress a
 
+-- one register twice
+abbrev pub sameRegister : Operand → Operand → Bool
+sameRegister (InRegister r) (InRegister q) = eqb r q
+sameRegister (InRegister r) (Constant n) = false
+sameRegister (Constant m) b = false
+
 module _ (v : View) where
   -- whether a register is open, and its value: its least, where it is open
   abbrev pub openAt : ℕ → Bool
@@ -104,9 +111,13 @@ module _ (v : View) where
   operandValue (InRegister r) = valueAt r
   operandValue (Constant n) = n
 
-  -- both operands are open
+  -- both operands are open, even one register twice
   abbrev pub bothOpen : Operand → Operand → Bool
   bothOpen a b = operandOpen b && operandOpen a
+
+  -- both operands are open, and they are not one register twice
+  abbrev pub twoOpen : Operand → Operand → Bool
+  twoOpen a b = bothOpen a b && not (sameRegister a b)
 
   abbrev pub zeroDivisor : Operand → Bool
   zeroDivisor b = eqb (operandValue b) 0
@@ -132,8 +143,8 @@ module _ (v : View) where
   -- points 7 and 8 of an operation on two operands
   unfoldable pub operationPoints : Operation → Operand → Operand → List Point
   operationPoints Add a b = (bothOpen a b ⇒ NotFollowed BothOpen) ∷ []
-  operationPoints Sub a b = (bothOpen a b ⇒ NotFollowed BothOpen) ∷ []
-  operationPoints Sltu a b = (bothOpen a b ⇒ NotFollowed BothOpen) ∷ []
+  operationPoints Sub a b = (twoOpen a b ⇒ NotFollowed BothOpen) ∷ []
+  operationPoints Sltu a b = (twoOpen a b ⇒ NotFollowed BothOpen) ∷ []
   operationPoints Mul a b =
       (bothOpen a b ⇒ NotFollowed BothOpen)
       ∷ (oddMultiplier a b ⇒ NotFollowed Multiplier)
@@ -146,7 +157,7 @@ module _ (v : View) where
   -- points 7 and 8, by what an instruction sorts by
   unfoldable pub operandPoints : Sorting → List Point
   operandPoints (Operates op a b) = operationPoints op a b
-  operandPoints (Compares a b) = (bothOpen a b ⇒ NotFollowed BothOpen) ∷ []
+  operandPoints (Compares a b) = (twoOpen a b ⇒ NotFollowed BothOpen) ∷ []
   operandPoints Nothing = []
 
   -- points 4 to 9; no instruction has both an address and operands to sort by

@@ -24,7 +24,7 @@ use Rattle.riscu.specs.declared.Decoded.{Decoded}
 use Rattle.riscu.specs.declared.Decoded.the-variants.{Row, NoRow}
 use Rattle.listing.specs.Group.{Job, Group, after, sortOf, sortingOf, operand, View, viewOf}
 use Rattle.listing.specs.Ending.{Point, _⇒_, first, lastAddress, badAddress, openAt, valueAt, badAccess, operandOpen, operandValue, bothOpen}
-use Rattle.listing.specs.Ending.{zeroDivisor, oddMultiplier, oddDivisor, farApart, operationPoints, operandPoints, addressPoints}
+use Rattle.listing.specs.Ending.{twoOpen, zeroDivisor, oddMultiplier, oddDivisor, farApart, operationPoints, operandPoints, addressPoints}
 use Rattle.listing.specs.Ending.{points, needs, endAt, endBy, endOf}
 use Rattle.listing.specs.declared.Operand.{Operand}
 use Rattle.listing.specs.declared.Operand.the-variants.{InRegister, Constant}
@@ -81,6 +81,9 @@ module _ (s : State) where
   one-not-both : (a b : Operand) → bothOpen (viewOfOne s) a b ≡ false
   one-not-both a b = rw (one-closed b)
 
+  one-not-two : (a b : Operand) → twoOpen (viewOfOne s) a b ≡ false
+  one-not-two a b = rw (one-not-both a b)
+
   one-multiplier : (a b : Operand) → oddMultiplier (viewOfOne s) a b ≡ false
   one-multiplier a b = rw (one-closed b)
 
@@ -107,7 +110,7 @@ module _ (j : Job) (g : Group) (c : Choice) (m : Inside c (g .box)) where
       → Stops (operationPoints v op a b ++ ((t ⇒ TraceFull) ∷ [])) (operationPoints (viewOfOne state) op a b)
   unfolding operationPoints
   operation-stops Add a b t = engine (omega arith) (one-not-both state a b) (λ _. full t)
-  operation-stops Sub a b t = engine (omega arith) (one-not-both state a b) (λ _. full t)
+  operation-stops Sub a b t = engine (omega arith) (one-not-two state a b) (λ _. full t)
   operation-stops Mul a b t =
       engine (omega arith) (one-not-both state a b) (λ _.
       engine (omega arith) (one-multiplier state a b) (λ _.
@@ -119,12 +122,12 @@ module _ (j : Job) (g : Group) (c : Choice) (m : Inside c (g .box)) where
   operation-stops Remu a b t =
       engine (omega arith) (one-closed state b) (λ o.
       machine (zero b o) (engine (omega arith) (one-apart state Remu a b) (λ _. full t)))
-  operation-stops Sltu a b t = engine (omega arith) (one-not-both state a b) (λ _. full t)
+  operation-stops Sltu a b t = engine (omega arith) (one-not-two state a b) (λ _. full t)
 
   operands-stop : (x : Sorting) (t : Bool) → Stops (operandPoints v x ++ ((t ⇒ TraceFull) ∷ [])) (operandPoints (viewOfOne state) x)
   unfolding operandPoints
   operands-stop (Operates op a b) t = operation-stops op a b t
-  operands-stop (Compares a b) t = engine (omega arith) (one-not-both state a b) (λ _. full t)
+  operands-stop (Compares a b) t = engine (omega arith) (one-not-two state a b) (λ _. full t)
   operands-stop Nothing t = full t
 
   access : (r : ℕ) (imm : ℤ) → openAt v r ≡ false → badAccess v r imm ≡ badAccess (viewOfOne state) r imm
@@ -183,16 +186,16 @@ module _ (s : State) where
       → first (operationPoints (viewOfOne s) op a b) ≡ none
   unfolding operationPoints first
   operation-goes-on Add a b h = rw (one-not-both s a b)
-  operation-goes-on Sub a b h = rw (one-not-both s a b)
+  operation-goes-on Sub a b h = rw (one-not-two s a b)
   operation-goes-on Mul a b h = rw (one-not-both s a b, one-multiplier s a b, one-multiplier s b a, one-apart s Mul a b)
   operation-goes-on Divu a b h = rw (one-closed s b, not-zero b h, one-divisor s a b)
   operation-goes-on Remu a b h = rw (one-closed s b, not-zero b h, one-apart s Remu a b)
-  operation-goes-on Sltu a b h = rw (one-not-both s a b)
+  operation-goes-on Sltu a b h = rw (one-not-two s a b)
 
   operands-go-on : (x : Sorting) → Computes x s → first (operandPoints (viewOfOne s) x) ≡ none
   unfolding operandPoints first
   operands-go-on (Operates op a b) h = operation-goes-on op a b h
-  operands-go-on (Compares a b) h = rw (one-not-both s a b)
+  operands-go-on (Compares a b) h = rw (one-not-two s a b)
   operands-go-on Nothing h = refl
 
   completes-goes-on : (i : Instruction) → Completes i s → first (points (viewOfOne s) i) ≡ none
@@ -250,18 +253,18 @@ module _ (s : State) where
   operation-of-machine : (op : Operation) (a b : Operand) → OfMachine (operationPoints (viewOfOne s) op a b)
   unfolding operationPoints
   operation-of-machine Add a b = passed (one-not-both s a b) none-left
-  operation-of-machine Sub a b = passed (one-not-both s a b) none-left
+  operation-of-machine Sub a b = passed (one-not-two s a b) none-left
   operation-of-machine Mul a b =
       passed (one-not-both s a b)
       (passed (one-multiplier s a b) (passed (one-multiplier s b a) (passed (one-apart s Mul a b) none-left)))
   operation-of-machine Divu a b = passed (one-closed s b) (lower (omega arith) (passed (one-divisor s a b) none-left))
   operation-of-machine Remu a b = passed (one-closed s b) (lower (omega arith) (passed (one-apart s Remu a b) none-left))
-  operation-of-machine Sltu a b = passed (one-not-both s a b) none-left
+  operation-of-machine Sltu a b = passed (one-not-two s a b) none-left
 
   operands-of-machine : (x : Sorting) → OfMachine (operandPoints (viewOfOne s) x)
   unfolding operandPoints
   operands-of-machine (Operates op a b) = operation-of-machine op a b
-  operands-of-machine (Compares a b) = passed (one-not-both s a b) none-left
+  operands-of-machine (Compares a b) = passed (one-not-two s a b) none-left
   operands-of-machine Nothing = none-left
 
   points-of-machine : (i : Instruction) → OfMachine (points (viewOfOne s) i)

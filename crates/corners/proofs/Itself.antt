@@ -1,0 +1,97 @@
+-- An instruction that names one register twice (document 02, No. 1): of SUB, SLTU and BEQ no point ends it and it does not fork; SUB and
+-- SLTU give 0, and BEQ is taken. The other operations keep their reasons.
+-- Assumes nothing.
+use mathlib.Core.Path.{_≡_, refl, sym, _∙_}
+use mathlib.Core.Bool.{true, false}
+use mathlib.Core.List.{List, [], _∷_}
+use mathlib.Core.Option.{Option, none, some}
+use Prim.Native.Nat.{ℕ, _+_}
+use lib.Dec.{eqb}
+use lib.IntN.{ℤ}
+use borrow.Author.Tests.{eq-eqb}
+use Rattle.boxes.specs.Boxes.{Proper}
+use Rattle.boxes.proofs.Lists.{by-test}
+use Rattle.boxes.proofs.Pieces.{pieces-one}
+use Rattle.riscu.specs.Word.{word, widen}
+use Rattle.riscu.specs.Machine.{State, reg, put, next, jump, step}
+use Rattle.riscu.specs.Whole.{Whole}
+use Rattle.riscu.specs.declared.Operation.{Operation}
+use Rattle.riscu.specs.declared.Operation.the-variants.{Add, Sub, Mul, Divu, Remu, Sltu}
+use Rattle.riscu.specs.declared.Instruction.{Instruction}
+use Rattle.riscu.specs.declared.Instruction.the-variants.{Register, Beq}
+use Rattle.listing.specs.Group.{Job, Group, after, View, viewOf, sortingOf, classBy, classOf}
+use Rattle.listing.specs.Ending.{first, openAt, twoOpen, operationPoints, operandPoints, addressPoints, points}
+use Rattle.listing.specs.declared.Operand.the-variants.{InRegister}
+use Rattle.listing.specs.declared.Reason.the-variants.{BothOpen, DivisorOpen}
+use Rattle.listing.specs.declared.End.{End}
+use Rattle.listing.specs.declared.End.the-variants.{NotFollowed}
+use Rattle.corners.specs.Smooth.{WithItself}
+use Rattle.corners.proofs.Operations.{class-itself, result-itself, comparison-itself}
+
+-- no point from 4 to 9 ends the instruction, whatever is open, and it does not fork
+pub record AlwaysFollowed (i : Instruction) : Type 0 where
+  pub passes : (v : View) → first (points v i) ≡ none
+  pub one-piece : (j : Job) (g : Group) → Proper (g .box) → viewOf j g .piecesOf i ≡ g .box ∷ []
+
+one-class : (i : Instruction) (n : ℕ) → ((s : State) → classOf i s ≡ n) → (j : Job) (g : Group) → Proper (g .box)
+    → viewOf j g .piecesOf i ≡ g .box ∷ []
+one-class i n h j g p = pieces-one (λ c. classOf i (after j (g .steps) c)) (g .box) p (λ c m. h _ ∙ sym (h _))
+
+not-two-itself : (v : View) (r : ℕ) → twoOpen v (InRegister r) (InRegister r) ≡ false
+not-two-itself v r = by-test (openAt v r) (λ e. rw (e, eq-eqb r r refl)) (λ e. rw e)
+
+operation-passes : (op : Operation) → WithItself op → (v : View) (r : ℕ) → first (operationPoints v op (InRegister r) (InRegister r)) ≡ none
+unfolding operationPoints first
+operation-passes Add i v r = absurd i
+operation-passes Sub i v r = rw (not-two-itself v r)
+operation-passes Mul i v r = absurd i
+operation-passes Divu i v r = absurd i
+operation-passes Remu i v r = absurd i
+operation-passes Sltu i v r = rw (not-two-itself v r)
+
+pub operation-itself : (op : Operation) → WithItself op → (rd r : ℕ) → AlwaysFollowed (Register op rd r r)
+unfolding points addressPoints operandPoints sortingOf classOf classBy first
+operation-itself op i rd r =
+    record {
+      passes = λ v. by-test (eqb rd 0) (λ z. rw z) (λ z. rw z (operation-passes op i v r));
+      one-piece = one-class (Register op rd r r) 0 (λ s. by-test (eqb rd 0) (λ z. rw z) (λ z. rw z (class-itself op i (reg r s))));
+    }
+
+pub branch-itself : (r : ℕ) (imm : ℤ) → AlwaysFollowed (Beq r r imm)
+unfolding points addressPoints operandPoints sortingOf classOf classBy first
+branch-itself r imm =
+    record { passes = λ v. rw (not-two-itself v r); one-piece = one-class (Beq r r imm) 1 (λ s. comparison-itself (reg r s)) }
+
+pub operation-gives-0 : (op : Operation) → WithItself op → (inputs : List ℕ) (rd r : ℕ) (s : State) → Whole s
+    → step inputs (Register op rd r r) s ≡ next s (put rd 0 s) (s .memory)
+unfolding step
+operation-gives-0 op i inputs rd r s w = rw (result-itself op i (reg r s) (w .registers .words r))
+
+pub branch-taken : (inputs : List ℕ) (r : ℕ) (imm : ℤ) (s : State)
+    → step inputs (Beq r r imm) s ≡ jump s (word (s .pc + widen imm)) (s .registers)
+unfolding step
+branch-taken inputs r imm s = rw (eq-eqb (reg r s) (reg r s) refl)
+
+-- the end of an operation on one open register twice
+abbrev pub endItself : Operation → Option End
+endItself Add = some (NotFollowed BothOpen)
+endItself Sub = none
+endItself Mul = some (NotFollowed BothOpen)
+endItself Divu = some (NotFollowed DivisorOpen)
+endItself Remu = some (NotFollowed DivisorOpen)
+endItself Sltu = none
+
+operation-open : (v : View) (op : Operation) (r : ℕ) → openAt v r ≡ true
+    → first (operationPoints v op (InRegister r) (InRegister r)) ≡ endItself op
+unfolding operationPoints first
+operation-open v Add r e = rw e
+operation-open v Sub r e = operation-passes Sub tt v r
+operation-open v Mul r e = rw e
+operation-open v Divu r e = rw e
+operation-open v Remu r e = rw e
+operation-open v Sltu r e = operation-passes Sltu tt v r
+
+pub open-itself : (v : View) (op : Operation) (rd r : ℕ) → eqb rd 0 ≡ false → openAt v r ≡ true
+    → first (points v (Register op rd r r)) ≡ endItself op
+unfolding points addressPoints operandPoints sortingOf
+open-itself v op rd r z e = rw z (operation-open v op r e)

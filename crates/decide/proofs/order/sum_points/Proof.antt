@@ -1,0 +1,17 @@
+use Rattle.decide.proofs.Verdicts.{stops, goes, passes}
+use Rattle.listing.specs.Ending.{operationPoints}
+use mathlib.Core.Path.{sym, _∙_}
+use borrow.Author.Needs.{needs}
+use Rattle.decide.proofs.order.sum_points.Statement.{statement}
+use Rattle.decide.proofs.order.sum_points.Tie as tie
+
+returns : tie.Need-returns
+unfolding operationPoints
+returns c = stops _ (sym (c .before .both-open .ensures) ∙ c .if1 .taken)
+
+returns-2 : tie.Need-returns-2
+unfolding operationPoints
+returns-2 c = goes _ _ (sym (c .before .both-open .ensures) ∙ c .if1 .left) passes
+
+pub sum-points-spec : {M : Type 1} → statement M
+sum-points-spec = tie.close (tie.spec (λ c κs. search needs) returns returns-2)
