@@ -26,7 +26,7 @@ use Rattle.listing.specs.declared.Reason.the-variants.{BothOpen, DivisorOpen}
 use Rattle.listing.specs.declared.End.{End}
 use Rattle.listing.specs.declared.End.the-variants.{NotFollowed}
 use Rattle.corners.specs.Smooth.{WithItself}
-use Rattle.corners.proofs.Operations.{class-itself, result-itself, comparison-itself}
+use Rattle.corners.proofs.Operations.{with-itself, class-itself, result-itself, comparison-itself}
 
 -- no point from 4 to 9 ends the instruction, whatever is open, and it does not fork
 pub record AlwaysFollowed (i : Instruction) : Type 0 where
@@ -42,12 +42,9 @@ not-two-itself v r = by-test (openAt v r) (λ e. rw (e, eq-eqb r r refl)) (λ e.
 
 operation-passes : (op : Operation) → WithItself op → (v : View) (r : ℕ) → first (operationPoints v op (InRegister r) (InRegister r)) ≡ none
 unfolding operationPoints first
-operation-passes Add i v r = absurd i
-operation-passes Sub i v r = rw (not-two-itself v r)
-operation-passes Mul i v r = absurd i
-operation-passes Divu i v r = absurd i
-operation-passes Remu i v r = absurd i
-operation-passes Sltu i v r = rw (not-two-itself v r)
+operation-passes =
+    with-itself (λ op. (v : View) (r : ℕ) → first (operationPoints v op (InRegister r) (InRegister r)) ≡ none)
+    (λ v r. rw (not-two-itself v r)) (λ v r. rw (not-two-itself v r))
 
 pub operation-itself : (op : Operation) → WithItself op → (rd r : ℕ) → AlwaysFollowed (Register op rd r r)
 unfolding points addressPoints operandPoints sortingOf classOf classBy first

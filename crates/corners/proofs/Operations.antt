@@ -128,23 +128,22 @@ open-second Sltu e = by-itself (flip less) less-rises
 less-itself : (x : ℕ) → less x x ≡ 0
 less-itself x = rw (le-ltb x x (omega arith))
 
+-- what holds of SUB and of SLTU
+pub with-itself : (P : Operation → Type 0) → P Sub → P Sltu → (op : Operation) → WithItself op → P op
+with-itself P p q Add i = absurd i
+with-itself P p q Sub i = p
+with-itself P p q Mul i = absurd i
+with-itself P p q Divu i = absurd i
+with-itself P p q Remu i = absurd i
+with-itself P p q Sltu i = q
+
 pub class-itself : (op : Operation) → WithItself op → (x : ℕ) → sortOf op x x ≡ 0
 unfolding sortOf
-class-itself Add i x = absurd i
-class-itself Sub i x = less-itself x
-class-itself Mul i x = absurd i
-class-itself Divu i x = absurd i
-class-itself Remu i x = absurd i
-class-itself Sltu i x = less-itself x
+class-itself = with-itself (λ op. (x : ℕ) → sortOf op x x ≡ 0) less-itself less-itself
 
 pub result-itself : (op : Operation) → WithItself op → (x : ℕ) → x < size → operate op x x ≡ 0
 unfolding operate
-result-itself Add i x h = absurd i
-result-itself Sub i x h = omega arith
-result-itself Mul i x h = absurd i
-result-itself Divu i x h = absurd i
-result-itself Remu i x h = absurd i
-result-itself Sltu i x h = less-itself x
+result-itself = with-itself (λ op. (x : ℕ) → x < size → operate op x x ≡ 0) (λ x h. omega arith) (λ x h. less-itself x)
 
 pub comparison-itself : (x : ℕ) → comparison x x ≡ 1
 unfolding comparison

@@ -244,6 +244,7 @@ fn quotients(op: Operation, low: &Registers, high: &Registers, a: Operand, b: Op
     apart(x, y)
 }
 
+// ADD: one register twice is not followed.
 fn sum_points(low: &Registers, high: &Registers, a: Operand, b: Operand) -> Verdict
     ensures { λ r. ⌜ r ≡ verdict (operationPoints (cornerView (now (low .entry)) (now (high .entry))) Add a b) ⌝ }
 {
