@@ -326,7 +326,7 @@ fn same_register_entries() -> Vec<Example> {
     ]
 }
 
-fn same_register_as_before() -> Vec<Example> {
+fn other_same_register() -> Vec<Example> {
     let copied = |word: u32| [ld(6, 0, 0), word];
     let cut = [addi(6, 0, 5), beq(5, 6, 4), mul(10, 5, 5)];
     let quotient = [addi(6, 0, 4), divu(7, 5, 6), add(10, 7, 7)];
@@ -375,7 +375,7 @@ fn tables() -> Vec<Table> {
         table("same-register", "SUB, SLTU and BEQ of one register twice", same_register()),
         table("same-in-loops", "one register twice in loops", same_register_in_loops()),
         table("same-entries", "one register twice and the entries", same_register_entries()),
-        table("same-as-before", "one register twice by document 01", same_register_as_before()),
+        table("same-otherwise", "one register twice, as document 01 has it", other_same_register()),
     ]
 }
 

@@ -5,7 +5,7 @@
 //! the ends of intervals alone, so it is slow and plain: boxes of up to some 100,000 choices.
 //!
 //! It is the other side of every comparison, a reading of the papers by itself: it has a decoder, a
-//! machine, numbers and a writer of records of its own, and shares none with the tool or crates.
+//! machine, numbers and a writer of records of its own, and shares none with tool or crates.
 
 #![allow(dead_code)] // a program that includes this module uses a part of it
 

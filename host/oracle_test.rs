@@ -161,7 +161,7 @@ fn one_fixed_register_twice() {
     let operations = [add, sub, mul, divu, remu, sltu];
     for (operation, value) in operations.iter().zip([10, 0, 25, 1, 0, 0]) {
         assert_eq!(exits(&[operation(10, 5, 5)], 5, 5), [((5, 5), (value, value))]);
-        // into register 0 nothing is asked, open or fixed
+        // nor is anything asked of an open one into register 0
         assert_eq!(exits(&[operation(0, 5, 5)], 0, 3), [((0, 3), (8, 8))]);
     }
     assert_eq!(exits(&[beq(5, 5, 8), addi(10, 0, 1)], 5, 5), [((5, 5), (8, 8))]);
@@ -173,7 +173,7 @@ fn a_register_against_itself_takes_an_entry_only_to_write() {
         let job = Job { entries, ..job(&reads(&[word, addi(10, 0, 1)]), 3, 6, 100) };
         lines(&job)
     };
-    // the read and the load have taken 5
+    // the opening has taken 5
     for operation in [sub, sltu] {
         assert_eq!(ends(operation(10, 5, 5), 5), [(TRACE_FULL, 0, 16, 4, (3, 6), (8, 8))]);
         assert_eq!(ends(operation(10, 5, 5), 6), [(TRACE_FULL, 0, 20, 5, (3, 6), (0, 0))]);

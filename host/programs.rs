@@ -224,9 +224,10 @@ impl Writer<'_> {
         self.code.push(addi(COUNTER, 0, turns));
         let start = self.code.len();
         for _ in 0..1 + self.random.below(3) {
-            match self.random.once_in(6) {
-                true => self.against_itself(),
-                false => self.operation(),
+            if self.random.once_in(6) {
+                self.against_itself();
+            } else {
+                self.operation();
             }
         }
         self.code.extend([addi(COUNTER, COUNTER, -1), beq(COUNTER, 0, 8)]);

@@ -1,12 +1,14 @@
--- An instruction that names one register twice (document 02, No. 1): of SUB, SLTU and BEQ no point ends it and it does not fork; SUB and
--- SLTU give 0, and BEQ is taken. The other operations keep their reasons.
+-- An instruction that names one register twice (document 02, No. 1): SUB, SLTU and BEQ end at none of the points 4 to 9 and do not
+-- fork; SUB and SLTU give 0, and BEQ is taken. The other operations keep their reasons.
 -- Assumes nothing.
 use mathlib.Core.Path.{_≡_, refl, sym, _∙_}
 use mathlib.Core.Bool.{true, false}
 use mathlib.Core.List.{List, [], _∷_}
 use mathlib.Core.Option.{Option, none, some}
 use Prim.Native.Nat.{ℕ, _+_}
-use lib.Dec.{eqb}
+use native.Mathlib.Omega.{arith}
+use lib.Dec.{eqb, ltb}
+use lib.ListN.{length}
 use lib.IntN.{ℤ}
 use borrow.Author.Tests.{eq-eqb}
 use Rattle.boxes.specs.Boxes.{Proper}
@@ -20,7 +22,7 @@ use Rattle.riscu.specs.declared.Operation.the-variants.{Add, Sub, Mul, Divu, Re
 use Rattle.riscu.specs.declared.Instruction.{Instruction}
 use Rattle.riscu.specs.declared.Instruction.the-variants.{Register, Beq}
 use Rattle.listing.specs.Group.{Job, Group, after, View, viewOf, sortingOf, classBy, classOf}
-use Rattle.listing.specs.Ending.{first, openAt, twoOpen, operationPoints, operandPoints, addressPoints, points}
+use Rattle.listing.specs.Ending.{first, openAt, twoOpen, operationPoints, operandPoints, addressPoints, points, writes, needs}
 use Rattle.listing.specs.declared.Operand.the-variants.{InRegister}
 use Rattle.listing.specs.declared.Reason.the-variants.{BothOpen, DivisorOpen}
 use Rattle.listing.specs.declared.End.{End}
@@ -28,14 +30,18 @@ use Rattle.listing.specs.declared.End.the-variants.{NotFollowed}
 use Rattle.corners.specs.Smooth.{WithItself}
 use Rattle.corners.proofs.Operations.{with-itself, class-itself, result-itself, comparison-itself}
 
--- no point from 4 to 9 ends the instruction, whatever is open, and it does not fork
+-- no point from 4 to 9 ends the instruction, whatever is open; it does not fork, and takes an entry for its writes alone
 pub record AlwaysFollowed (i : Instruction) : Type 0 where
   pub passes : (v : View) → first (points v i) ≡ none
   pub one-piece : (j : Job) (g : Group) → Proper (g .box) → viewOf j g .piecesOf i ≡ g .box ∷ []
+  pub entries : (j : Job) (g : Group) → Proper (g .box) → needs g (viewOf j g) i ≡ writes (ltb (viewOf j g .reads) (length (g .box))) i
 
-one-class : (i : Instruction) (n : ℕ) → ((s : State) → classOf i s ≡ n) → (j : Job) (g : Group) → Proper (g .box)
-    → viewOf j g .piecesOf i ≡ g .box ∷ []
-one-class i n h j g p = pieces-one (λ c. classOf i (after j (g .steps) c)) (g .box) p (λ c m. h _ ∙ sym (h _))
+one-class : (i : Instruction) (n : ℕ) → ((v : View) → first (points v i) ≡ none) → ((s : State) → classOf i s ≡ n) → AlwaysFollowed i
+unfolding needs
+one-class i n p h = record { passes = p; one-piece = piece; entries = λ j g q. rw (piece j g q) (omega arith) }
+  where
+    piece : (j : Job) (g : Group) → Proper (g .box) → viewOf j g .piecesOf i ≡ g .box ∷ []
+    piece j g q = pieces-one (λ c. classOf i (after j (g .steps) c)) (g .box) q (λ c m. h _ ∙ sym (h _))
 
 not-two-itself : (v : View) (r : ℕ) → twoOpen v (InRegister r) (InRegister r) ≡ false
 not-two-itself v r = by-test (openAt v r) (λ e. rw (e, eq-eqb r r refl)) (λ e. rw e)
@@ -49,15 +55,13 @@ operation-passes =
 pub operation-itself : (op : Operation) → WithItself op → (rd r : ℕ) → AlwaysFollowed (Register op rd r r)
 unfolding points addressPoints operandPoints sortingOf classOf classBy first
 operation-itself op i rd r =
-    record {
-      passes = λ v. by-test (eqb rd 0) (λ z. rw z) (λ z. rw z (operation-passes op i v r));
-      one-piece = one-class (Register op rd r r) 0 (λ s. by-test (eqb rd 0) (λ z. rw z) (λ z. rw z (class-itself op i (reg r s))));
-    }
+    one-class (Register op rd r r) 0
+    (λ v. by-test (eqb rd 0) (λ z. rw z) (λ z. rw z (operation-passes op i v r)))
+    (λ s. by-test (eqb rd 0) (λ z. rw z) (λ z. rw z (class-itself op i (reg r s))))
 
 pub branch-itself : (r : ℕ) (imm : ℤ) → AlwaysFollowed (Beq r r imm)
 unfolding points addressPoints operandPoints sortingOf classOf classBy first
-branch-itself r imm =
-    record { passes = λ v. rw (not-two-itself v r); one-piece = one-class (Beq r r imm) 1 (λ s. comparison-itself (reg r s)) }
+branch-itself r imm = one-class (Beq r r imm) 1 (λ v. rw (not-two-itself v r)) (λ s. comparison-itself (reg r s))
 
 pub operation-gives-0 : (op : Operation) → WithItself op → (inputs : List ℕ) (rd r : ℕ) (s : State) → Whole s
     → step inputs (Register op rd r r) s ≡ next s (put rd 0 s) (s .memory)

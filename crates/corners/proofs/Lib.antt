@@ -1,5 +1,5 @@
 -- The corner law, from the bottom up.
---     Operations      each operation with one operand fixed: its class, and its result in one class, go one way
+--     Operations      each operation with one operand fixed: its class, and its result in one class, go one way; a word against itself
 --     Tame            values that hang on one input of a box at most
 --     Smooth          steps that no point ends and that do not fork
 --     Uniform         after smooth steps every value is tame, with the tag that is computed

@@ -1,4 +1,5 @@
--- The operations on two words, one of them held fixed: the class is monotone in the other, and in each class so is the result.
+-- The operations on two words, one of them held fixed: the class is monotone in the other, and in each class so is the result. A word
+-- against itself: one class and one result.
 -- Assumes nothing.
 use mathlib.Core.Path.{_≡_, refl, sym}
 use mathlib.Core.Logic.{_⊎_, inl, inr}
@@ -123,7 +124,7 @@ open-second Divu e = absurd e
 open-second Remu e = absurd e
 open-second Sltu e = by-itself (flip less) less-rises
 
--- A value against itself: one class, and one result.
+-- a word against itself
 
 less-itself : (x : ℕ) → less x x ≡ 0
 less-itself x = rw (le-ltb x x (omega arith))

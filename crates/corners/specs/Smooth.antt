@@ -94,7 +94,7 @@ module _ (b : Box) (s : Choice → State) where
   BaseSame none = Unit {0}
   BaseSame (some r) = Same b (λ c. reg r (s c))
 
-  -- one of two operands is fixed, or both are one register where that is followed
+  -- one of two operands is fixed (the first, where E allows it), or both are one register (where I allows it)
   abbrev pub PairSettled : Type 0 → Type 0 → Operand → Operand → Type 0
   PairSettled E I x y = OneSame E b (λ c. operand x (s c .registers)) (λ c. operand y (s c .registers)) ⊎ (I × (x ≡ y))
 

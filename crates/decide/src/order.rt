@@ -244,7 +244,7 @@ fn quotients(op: Operation, low: &Registers, high: &Registers, a: Operand, b: Op
     apart(x, y)
 }
 
-// ADD: one register twice is not followed.
+// ADD, and the first point of MUL: one open register twice is not followed.
 fn sum_points(low: &Registers, high: &Registers, a: Operand, b: Operand) -> Verdict
     ensures { λ r. ⌜ r ≡ verdict (operationPoints (cornerView (now (low .entry)) (now (high .entry))) Add a b) ⌝ }
 {
@@ -254,7 +254,7 @@ fn sum_points(low: &Registers, high: &Registers, a: Operand, b: Operand) -> Verd
     Verdict::Passes
 }
 
-// SUB, SLTU and BEQ: one register twice is followed.
+// SUB, SLTU and BEQ: one open register twice is followed.
 fn open_operands(low: &Registers, high: &Registers, a: Operand, b: Operand) -> Verdict
     ensures { λ r. ⌜ r ≡ verdict (operandPoints (cornerView (now (low .entry)) (now (high .entry))) (Compares a b)) ⌝ }
 {
@@ -267,9 +267,10 @@ fn open_operands(low: &Registers, high: &Registers, a: Operand, b: Operand) -> V
 fn product_points(low: &Registers, high: &Registers, a: Operand, b: Operand) -> Verdict
     ensures { λ r. ⌜ r ≡ verdict (operationPoints (cornerView (now (low .entry)) (now (high .entry))) Mul a b) ⌝ }
 {
-    if both_open(low, high, a, b) {
-        return Verdict::Ends(End::NotFollowed(Reason::BothOpen));
-    }
+    let v = sum_points(low, high, a, b);
+    let Verdict::Passes = v else {
+        return v;
+    };
     if multiplier(low, high, a, b) {
         return Verdict::Ends(End::NotFollowed(Reason::Multiplier));
     }

@@ -899,9 +899,9 @@ same-entries =
     ∷ [])
     ∷ []
 
--- one register twice by document 01
-abbrev pub same-as-before : List (Job × List Path)
-same-as-before =
+-- one register twice, as document 01 has it
+abbrev pub same-otherwise : List (Job × List Path)
+same-otherwise =
     -- DIVU of one open register twice
     example (reads (0x0252D533 ∷ []))
     [] 20 ((0 ⋯ 3) ∷ []) 40
@@ -1012,7 +1012,7 @@ table =
     ++ same-register
     ++ same-in-loops
     ++ same-entries
-    ++ same-as-before
+    ++ same-otherwise
 
 abbrev listed : Job × List Path → List Path
 listed x = listing (x .0)

@@ -1,5 +1,5 @@
 -- How a path ends: document 01's ten points, in its order. The first that applies decides, with the first reason named there.
--- Point 8 is as document 02, No. 1, has it: of one register twice SUB, SLTU and BEQ go on; ADD and MUL do not.
+-- Point 8 is as document 02, No. 1, has it: with one open register twice SUB, SLTU and BEQ go on; ADD and MUL do not.
 use Prim.Native.Nat.{ℕ, _+_, _-_, _%_}
 use mathlib.Core.Bool.{Bool, true, false, cond, not, _&&_, _||_}
 use mathlib.Core.List.{List, [], _∷_, _++_}
