@@ -1,6 +1,6 @@
 use Rattle.listing.proofs.Matches.{by-case}
 use Rattle.decide.specs.Corner.{cornerView, verdict}
-use Rattle.listing.specs.Ending.{operandPoints}
+use Rattle.listing.specs.Ending.{operationPoints, operandPoints}
 use Rattle.listing.specs.declared.Sorting.{Sorting}
 use denote.Ref.{now}
 use mathlib.Core.Path.{refl}
@@ -15,6 +15,7 @@ returns c =
     by-case (λ (s : Sorting). verdict (operandPoints (cornerView (now (a .low)) (now (a .high))) s)) (c .before .before .s .given .1) (c .operation-points .ensures)
 
 returns-2 : tie.Need-returns-2
+unfolding operationPoints operandPoints
 returns-2 c =
     let a = c .before .before .before .before .args in
     by-case (λ (s : Sorting). verdict (operandPoints (cornerView (now (a .low)) (now (a .high))) s)) (c .before .before .s2 .given .1) (c .open-operands .ensures)
