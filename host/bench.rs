@@ -4,13 +4,14 @@
 mod library;
 
 use formats::assembler::{self, *};
-use formats::blocks::flat;
+use formats::blocks::{flat, Interval, HIGHS, LOWS};
 use formats::instruction::{bits, immediate, Form};
 use formats::job::Job;
 use formats::limits::{
-    path_bytes, ENTRY_WORDS, MEMORY_WORDS, MOST_STEPS, REGISTERS, USUAL_PAGE_PATHS,
-    USUAL_TABLE_WORDS,
+    path_bytes, BLOCK_BYTES, ENTRY_WORDS, MEMORY_WORDS, MOST_INPUTS, MOST_ROWS, MOST_STEPS,
+    PAYLOAD_WORDS, REGISTERS, USUAL_PAGE_PATHS, USUAL_TABLE_WORDS,
 };
+use formats::random::Random;
 use formats::report::read_pages;
 use std::hint::black_box;
 use std::time::Instant;
@@ -253,6 +254,68 @@ fn compared_often(forks: u32) -> Call {
 }
 
 // ---------------------------------------------------------------------------------------------
+// Rows placed by a plain loop over the report's bytes, with the same questions.
+
+fn place_plain(inputs: u64, report: &[u8], rows: &[u64], answers: &mut [u64]) -> u64 {
+    let count = inputs as usize;
+    let records = || report.chunks_exact(path_bytes(count));
+    let countable = (1..=MOST_INPUTS).contains(&count);
+    let right = countable && report.len() % path_bytes(count) == 0;
+    if !right || !records().all(|record| is_record(record, inputs)) {
+        return 12;
+    }
+    let whole = rows.len() % count == 0 && rows.len() <= MOST_ROWS * count;
+    if !whole || answers.len() != rows.len() / count {
+        return 13;
+    }
+    for (row, answer) in rows.chunks_exact(count).zip(answers) {
+        let first = records().find(|record| holds(record, row));
+        *answer = first.map_or(MAX, |record| word(record, 0));
+    }
+    0
+}
+
+fn word(bytes: &[u8], place: usize) -> u64 {
+    u64::from_le_bytes(bytes[8 * place..8 * place + 8].try_into().expect("eight bytes"))
+}
+
+fn is_record(bytes: &[u8], inputs: u64) -> bool {
+    word(bytes, 4) == inputs && bytes.chunks_exact(BLOCK_BYTES).all(agrees)
+}
+
+fn agrees(block: &[u8]) -> bool {
+    let turned = |sum: u64, place| sum.rotate_left(1).wrapping_add(word(block, place));
+    (0..PAYLOAD_WORDS).fold(1, turned) == word(block, PAYLOAD_WORDS)
+}
+
+fn holds(record: &[u8], row: &[u64]) -> bool {
+    let inside = |(input, &value)| {
+        word(record, LOWS + input) <= value && value <= word(record, HIGHS + input)
+    };
+    row.iter().enumerate().all(inside)
+}
+
+/// The page of a call's first paths, and their boxes.
+fn first_page(call: &Call) -> (Vec<u8>, Vec<Vec<Interval>>) {
+    let (mut table, mut report) = call.room();
+    let reply = call.make(&mut table, &mut report);
+    assert!(reply.refused == 0 && reply.count == call.paths as u64, "{reply:?}");
+    let records = read_pages(&report, call.job.intervals.len()).expect("a page of the library");
+    (report, records.into_iter().map(|record| record.intervals).collect())
+}
+
+/// As many rows as a call takes, each in one of these paths: all have the same chance.
+fn rows_in(boxes: &[Vec<Interval>]) -> Vec<u64> {
+    let mut random = Random(1);
+    let mut rows = Vec::new();
+    for _ in 0..MOST_ROWS {
+        let path = &boxes[random.below(boxes.len())];
+        rows.extend(path.iter().map(|&ends| random.between(ends)));
+    }
+    rows
+}
+
+// ---------------------------------------------------------------------------------------------
 // The stack: painted below this frame, and looked at after the call.
 
 const PAINTED: usize = 256 * 1024;
@@ -395,9 +458,50 @@ fn stack_text(bytes: usize) -> String {
     }
 }
 
+fn print_placing() {
+    let whole = compared_and_added(8);
+    let mut page = compared_and_added(8);
+    page.paths = USUAL_PAGE_PATHS;
+    let ((page, page_boxes), (whole, boxes)) = (first_page(&page), first_page(&whole));
+    println!("\n## Placing rows\n");
+    println!(
+        "| rows | paths | rows in a path | plain loop, µs a call | library, µs a call | ratio |"
+    );
+    println!("|---|---|---|---|---|---|");
+    print_placed(&page, &rows_in(&page_boxes), 20);
+    print_placed(&page, &rows_in(&boxes), 20);
+    print_placed(&whole, &rows_in(&boxes), 1);
+}
+
+/// Eight inputs, and an answer for each row.
+fn print_placed(report: &[u8], rows: &[u64], repeats: u32) {
+    let mut answers = vec![0; rows.len() / MOST_INPUTS];
+    let mut plain_answers = answers.clone();
+    let inputs = MOST_INPUTS as u64;
+    assert_eq!(place_plain(inputs, report, rows, &mut plain_answers), 0);
+    assert_eq!(library::place(inputs, report, rows, &mut answers), 0);
+    assert_eq!(answers, plain_answers, "the two give the same answers");
+    let plain = median_ns(repeats, || {
+        black_box(place_plain(inputs, black_box(report), black_box(rows), &mut plain_answers));
+    });
+    let ns = median_ns(repeats, || {
+        black_box(library::place(inputs, black_box(report), black_box(rows), &mut answers));
+    });
+    println!(
+        "| {} | {} | {} | {:.1} | {:.1} | {:.1} |",
+        answers.len(),
+        report.len() / path_bytes(MOST_INPUTS),
+        answers.iter().filter(|&&answer| answer != MAX).count(),
+        plain / 1000.0,
+        ns / 1000.0,
+        ns / plain
+    );
+}
+
 fn main() {
     print_against_plain();
     print_typical_jobs();
     print_growth();
     print_single_calls();
+    print_placing();
 }

@@ -1,4 +1,4 @@
-# Sourced at the top of the repository by the scripts that prove and build.
+# Sourced by the scripts that prove and build; its file names are those from the top of the repository.
 archive=target/staticlib/libmirokefa_c.a
 formats=target/tool/libformats.rlib
 tool=target/tool/mirokefa-job
@@ -29,4 +29,33 @@ build_tool() {
     if stale "$tool" tool "$formats" "$archive"; then
         "${rust[@]}" "${with_library[@]}" -o "$tool" tool/mirokefa-job.rs
     fi
+}
+
+# What ./explore and ./place share; top is the top of the repository, and the caller may stand elsewhere.
+
+wants_help() { # is one of the words an option for it, or is it the only word?
+    local word
+    for word in "$@"; do
+        case $word in -h | --help) return ;; esac
+    done
+    [ "$*" = help ]
+}
+
+need_files() { # before minutes of proving
+    local name
+    for name in "$@"; do
+        if [ ! -e "$name" ]; then
+            echo "./${0##*/}: there is no file $name" >&2
+            exit 2
+        fi
+    done
+}
+
+run_tool() { # builds what is missing or older than its sources, and runs the tool with these words
+    (
+        cd "$top"
+        host/archive
+        build_tool
+    ) >&2
+    exec "$top/$tool" "$@"
 }

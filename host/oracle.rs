@@ -1,11 +1,12 @@
-//! A brute-force oracle for the interval path explorer, after document 01 and No. 1 of document 02.
+//! A brute-force oracle for the interval path explorer, after document 01 and Nos. 1 and 2 of
+//! document 02.
 //!
 //! A group holds every choice of its box, each with a plain machine of its own; a value is fixed if
 //! all of them give the same, and pieces are made by sorting the choices. Nothing is computed from
 //! the ends of intervals alone, so it is slow and plain: boxes of up to some 100,000 choices.
 //!
 //! It is the other side of every comparison, a reading of the papers by itself: it has a decoder, a
-//! machine, numbers and a writer of records of its own, and shares none with tool or crates.
+//! machine, numbers, a writer and a reader of records of its own, and shares none with tool or crates.
 
 #![allow(dead_code)] // a program that includes this module uses a part of it
 
@@ -860,4 +861,55 @@ fn write_block(bytes: &mut [u8], block: &[u64; BLOCK_WORDS]) {
 /// The check word of a payload.
 pub fn check(payload: &[u64]) -> u64 {
     payload.iter().fold(1, |sum: u64, word| sum.rotate_left(1).wrapping_add(*word))
+}
+
+// ---------------------------------------------------------------------------------------------
+// Placing rows: No. 2 of document 02.
+
+pub const BAD_RECORDS: u64 = 12;
+pub const BAD_ROWS: u64 = 13;
+
+/// The answer for a row in no path.
+pub const NO_PATH: u64 = u64::MAX;
+
+/// Writes the path number for each row; 0, or the number of the refusal.
+pub fn place(inputs: u64, report: &[u8], rows: &[u64], answers: &mut [u64]) -> u64 {
+    let Some(paths) = records(inputs, report) else { return BAD_RECORDS };
+    let inputs = inputs as usize;
+    let count = rows.len() / inputs;
+    if rows.len() % inputs != 0 || count > 1024 || answers.len() != count {
+        return BAD_ROWS;
+    }
+    for (row, answer) in rows.chunks(inputs).zip(answers) {
+        let first = paths.iter().find(|path| holds(path, row));
+        *answer = first.map_or(NO_PATH, |path| path[0]);
+    }
+    0
+}
+
+/// The words of each record; none if the report is refused.
+fn records(inputs: u64, report: &[u8]) -> Option<Vec<Vec<u64>>> {
+    let size = path_bytes(inputs as usize);
+    if inputs == 0 || inputs > 8 || report.len() % size != 0 {
+        return None;
+    }
+    let paths: Vec<Vec<u64>> = report.chunks(size).map(words).collect();
+    paths.iter().all(|path| is_record(inputs, path)).then_some(paths)
+}
+
+/// The count in word 4, and the checks of both blocks.
+fn is_record(inputs: u64, path: &[u64]) -> bool {
+    let agrees = |block: &[u64]| check(&block[..BLOCK_WORDS - 1]) == block[BLOCK_WORDS - 1];
+    path[4] == inputs && path.chunks(BLOCK_WORDS).all(agrees)
+}
+
+/// Each value of the row between the low and the high of its input, both ends included.
+fn holds(path: &[u64], row: &[u64]) -> bool {
+    (0..row.len()).all(|input| path[5 + input] <= row[input] && row[input] <= path[13 + input])
+}
+
+/// Little-endian words of eight bytes.
+fn words(bytes: &[u8]) -> Vec<u64> {
+    let word = |bytes: &[u8]| bytes.iter().rev().fold(0, |value, &byte| value * 256 + byte as u64);
+    bytes.chunks(8).map(word).collect()
 }

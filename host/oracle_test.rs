@@ -1,5 +1,5 @@
-//! Tests of the oracle itself: document 01's rules on trial, No. 1 of document 02, and random jobs
-//! against runs of its plain machine.
+//! Tests of the oracle itself: document 01's rules on trial, Nos. 1 and 2 of document 02, and random
+//! jobs against runs of its plain machine.
 
 mod listing_check;
 mod oracle;
@@ -7,6 +7,7 @@ mod oracle;
 mod programs;
 
 use formats::assembler::*;
+use formats::blocks::to_bytes;
 use formats::limits::{path_bytes, ENTRY_WORDS, MEMORY_WORDS, PAYLOAD_WORDS, USUAL_TABLE_WORDS};
 use formats::numbers::{KINDS, REASONS};
 use formats::random::Random;
@@ -300,4 +301,155 @@ fn paths_come_back_from_their_pages() {
         write_page(&paths, &mut pages, 0);
         assert_eq!(listing_check::read_listing(&pages, inputs), Ok(paths));
     }
+}
+
+/// A record with this number and box; nothing is asked about the words that hold 7.
+fn record(number: u64, boxed: &[Interval]) -> Vec<u8> {
+    let mut words = [7; 2 * PAYLOAD_WORDS];
+    (words[0], words[4]) = (number, boxed.len() as u64);
+    for (input, &ends) in boxed.iter().enumerate() {
+        (words[5 + input], words[13 + input]) = ends;
+    }
+    to_bytes(&words)
+}
+
+/// The answers to a call that is accepted.
+fn placed(inputs: u64, report: &[u8], rows: &[u64]) -> Vec<u64> {
+    let mut answers = vec![77; rows.len() / inputs as usize];
+    assert_eq!(place(inputs, report, rows, &mut answers), 0);
+    answers
+}
+
+/// The number of a call that is refused, which writes no answer.
+fn refusal(inputs: u64, report: &[u8], rows: &[u64], answer_words: usize) -> u64 {
+    let mut answers = vec![77; answer_words];
+    let number = place(inputs, report, rows, &mut answers);
+    assert_eq!(answers, vec![77; answer_words]);
+    number
+}
+
+#[test]
+fn rows_of_job_a() {
+    let mut report = [0; 2 * RECORD];
+    call(&job_a().code, &MEMORY, &[0, 255], 100, USUAL_TABLE_WORDS, &mut report, 0);
+    let rows = [0, 9, 10, 255, 256, u64::MAX];
+    assert_eq!(placed(1, &report, &rows), [0, 0, 1, 1, NO_PATH, NO_PATH]);
+    let second = &report[RECORD..];
+    assert_eq!(placed(1, second, &rows), [NO_PATH, NO_PATH, 1, 1, NO_PATH, NO_PATH]);
+}
+
+#[test]
+fn the_first_listed_path_wins() {
+    let boxes =
+        [(5, (0, 20)), (3, (10, 30)), (3, (0, 9)), (u64::MAX, (40, 40)), (8, (31, u64::MAX))];
+    let report = boxes.map(|(number, ends)| record(number, &[ends])).concat();
+    let rows = [0, 9, 10, 20, 21, 30, 31, 39, 40, 41, u64::MAX];
+    assert_eq!(placed(1, &report, &rows), [5, 5, 5, 5, 3, 3, 8, 8, u64::MAX, 8, 8]);
+}
+
+#[test]
+fn every_value_lies_in_its_interval() {
+    let report = record(4, &[(1, 3), (7, 7), (0, u64::MAX)]);
+    let (inside, outside) =
+        ([[1, 7, 0], [3, 7, u64::MAX]], [[0, 7, 5], [4, 7, 5], [1, 6, 5], [1, 8, 5]]);
+    assert_eq!(placed(3, &report, &inside.concat()), [4; 2]);
+    assert_eq!(placed(3, &report, &outside.concat()), [NO_PATH; 4]);
+    let eight = record(6, &[0, 1, 2, 3, 4, 5, 6, 7].map(|value| (value, value)));
+    let rows = [[0, 1, 2, 3, 4, 5, 6, 7], [0, 1, 2, 3, 4, 5, 6, 8], [7, 6, 5, 4, 3, 2, 1, 0]];
+    assert_eq!(placed(8, &eight, &rows.concat()), [6, NO_PATH, NO_PATH]);
+}
+
+#[test]
+fn a_low_above_its_high_holds_no_row() {
+    assert_eq!(placed(1, &record(2, &[(10, 5)]), &[0, 5, 7, 10, u64::MAX]), [NO_PATH; 5]);
+}
+
+#[test]
+fn no_record_and_no_row() {
+    assert_eq!(placed(8, &[], &[0; 16]), [NO_PATH; 2]);
+    assert_eq!(placed(1, &record(0, &[(0, 9)]), &[]), []);
+    assert_eq!(placed(1, &[], &[0; 1024]), [NO_PATH; 1024]);
+}
+
+#[test]
+fn reports_that_are_refused() {
+    let (one, two) = (record(0, &[(0, 9)]), record(1, &[(0, 9), (0, 9)]));
+    for inputs in [0, 9, 1 << 32 | 1, u64::MAX] {
+        assert_eq!(refusal(inputs, &[], &[], 0), BAD_RECORDS);
+        assert_eq!(refusal(inputs, &one, &[], 0), BAD_RECORDS);
+    }
+    for length in [1, 512, 1023] {
+        assert_eq!(refusal(1, &one[..length], &[5], 1), BAD_RECORDS);
+    }
+    assert_eq!(refusal(2, &one, &[5, 5], 1), BAD_RECORDS);
+    assert_eq!(refusal(1, &[&one[..], &two].concat(), &[5], 1), BAD_RECORDS);
+    // in both blocks: a word that is asked for or not, and the check
+    for place in [0, 8 * 40, 511, 512, 512 + 8 * 40, 1023] {
+        let mut changed = [&one[..], &one].concat();
+        changed[RECORD + place] ^= 1;
+        assert_eq!(refusal(1, &changed, &[5], 1), BAD_RECORDS);
+    }
+}
+
+#[test]
+fn rows_that_are_refused() {
+    let report = record(0, &[(0, 9), (0, 9)]);
+    assert_eq!(refusal(2, &report, &[5; 3], 1), BAD_ROWS);
+    assert_eq!(refusal(2, &report, &[5; 3], 2), BAD_ROWS);
+    assert_eq!(refusal(2, &report, &[5; 2 * 1025], 1025), BAD_ROWS);
+    for answers in [0, 1, 3] {
+        assert_eq!(refusal(2, &report, &[5; 4], answers), BAD_ROWS);
+    }
+    assert_eq!(refusal(2, &report, &[], 1), BAD_ROWS);
+    assert_eq!(refusal(2, &[], &[5], 0), BAD_ROWS);
+    assert_eq!(placed(2, &report, &[5; 2 * 1024]), [0; 1024]);
+}
+
+#[test]
+fn the_report_is_asked_first() {
+    let report = record(0, &[(0, 9), (0, 9)]);
+    assert_eq!(refusal(0, &report, &[5; 3], 1), BAD_RECORDS);
+    assert_eq!(refusal(1, &report, &[5; 1025], 1025), BAD_RECORDS);
+    assert_eq!(refusal(2, &report[1..], &[5; 4], 1), BAD_RECORDS);
+}
+
+/// The number, and what the list for the answers, which came with 5 in each place, then holds.
+fn answer(inputs: u64, report: &[u8], rows: &[u64], answer_words: usize) -> Vec<u64> {
+    let mut answers = vec![5; answer_words];
+    let number = place(inputs, report, rows, &mut answers);
+    [&[number], &answers[..]].concat()
+}
+
+/// What antt computes in crates/reports/proofs/Examples.antt.
+#[test]
+fn the_examples_of_the_definitions() {
+    let max = u64::MAX;
+    let set = |report: &[u8], place: usize| {
+        let mut changed = report.to_vec();
+        changed[place] = 1;
+        changed
+    };
+    let overlapping = [record(7, &[(0, 9)]), record(3, &[(5, 20)])].concat();
+    let two_inputs =
+        [(4, (6, 5)), (0, (5, 5)), (1, (6, max))].map(|(n, last)| record(n, &[(0, 9), last]));
+    let two_inputs = two_inputs.concat();
+    let both = [&overlapping[..], &two_inputs].concat();
+    assert_eq!(answer(1, &overlapping, &[0, 5, 9, 10, 20, 21], 6), [0, 7, 7, 7, 3, 3, max]);
+    assert_eq!(answer(1, &overlapping[RECORD..], &[9, 4], 2), [0, 3, max]);
+    let rows = [9, 5, 9, 6, 10, 5, 0, 4, 3, max];
+    assert_eq!(answer(2, &two_inputs, &rows, 5), [0, 0, 1, max, max, 1]);
+    assert_eq!(answer(3, &[], &[1, 2, 3], 1), [0, max]);
+    assert_eq!(answer(1, &overlapping, &[], 0), [0]);
+    assert_eq!(answer(0, &[], &[], 0), [12]);
+    assert_eq!(answer(9, &[], &[], 0), [12]);
+    assert_eq!(answer(1, &overlapping[1..], &[0], 1), [12, 5]);
+    assert_eq!(answer(2, &overlapping, &[0, 0], 1), [12, 5]);
+    assert_eq!(answer(1, &both, &[0], 1), [12, 5]);
+    assert_eq!(answer(1, &set(&overlapping, 1324), &[0], 1), [12, 5]);
+    assert_eq!(answer(1, &set(&overlapping, 1836), &[0], 1), [12, 5]);
+    assert_eq!(answer(2, &two_inputs, &[9, 5, 9], 1), [13, 5]);
+    assert_eq!(answer(1, &[], &[0; 1025], 0), [13]);
+    assert_eq!(answer(1, &overlapping, &[0, 1], 1), [13, 5]);
+    assert_eq!(answer(1, &overlapping, &[], 1), [13, 5]);
+    assert_eq!(answer(1, &set(&overlapping, 300), &[0, 1], 1), [12, 5]);
 }

@@ -25,6 +25,7 @@ extern "C" {
 #define MIROKEFA_MOST_BLOCKS 19         /* a job has 1 to so many blocks */
 #define MIROKEFA_PATH_BYTES(inputs) 1024 /* bytes of a path in the report, by the input count: two blocks for up to 8 */
 #define MIROKEFA_PATH_NUMBERS (UINT64_C(1) << 32) /* the first path wanted is below this */
+#define MIROKEFA_MOST_ROWS 1024         /* a call places 0 to so many rows */
 
 /* The table and the page of the course's program; a larger table follows longer paths. */
 #define MIROKEFA_USUAL_TABLE_WORDS 8192
@@ -33,8 +34,8 @@ extern "C" {
 /* ---- Refusals ---- */
 
 /* The first question with the answer no decides. mirokefa_explore asks 1 to 8 in this order;
- * mirokefa_serve asks 9, 10, 1, 2, 3, 4, 6, 8 and 11 of the job, and then 7. A refused call reports
- * no path and changes nothing lent. */
+ * mirokefa_serve asks 9, 10, 1, 2, 3, 4, 6, 8 and 11 of the job, and then 7; mirokefa_place asks 12
+ * and then 13. A refused call reports no path and changes nothing lent. */
 enum mirokefa_refusal {
     MIROKEFA_ACCEPTED = 0,
     MIROKEFA_REFUSED_CODE = 1,      /* the code is not 1 to 1,024 words */
@@ -47,7 +48,10 @@ enum mirokefa_refusal {
     MIROKEFA_REFUSED_FIRST = 8,     /* the first path wanted is not below 2^32 */
     MIROKEFA_REFUSED_BLOCKS = 9,    /* the job is not 1 to 19 whole blocks */
     MIROKEFA_REFUSED_CHECK = 10,    /* the check of a block of the job does not agree */
-    MIROKEFA_REFUSED_FORM = 11      /* word 0 of the job is not 1, its blocks are too few or too many, or an unused word is not 0 */
+    MIROKEFA_REFUSED_FORM = 11,     /* word 0 of the job is not 1, its blocks are too few or too many, or an unused word is not 0 */
+    MIROKEFA_REFUSED_RECORDS = 12,  /* the input count is not 1 to 8, the report is not whole records of that count, a record has another
+                                       count, or the check of a block does not agree */
+    MIROKEFA_REFUSED_ROWS = 13      /* the rows are not whole or more than 1,024, or there is not one answer for each */
 };
 
 /* ---- How a path ends ---- */
@@ -140,6 +144,24 @@ struct mirokefa_outcome mirokefa_explore(
  * job        the header block, the code blocks, the memory blocks. Read only.
  * report     as for mirokefa_explore. It is written, and does not overlap the job. */
 struct mirokefa_outcome mirokefa_serve(const uint8_t *job, size_t job_bytes, uint8_t *report, size_t report_bytes);
+
+/* What mirokefa_place answers for a row that no path holds. */
+#define MIROKEFA_NO_PATH UINT64_MAX
+
+/* Which path does each row of inputs take? Answers 0, or the number of a refusal; then no answer is written. Parts are lent as for
+ * mirokefa_explore.
+ *
+ * inputs     how many inputs the report's paths have, 1 to 8; a row has a value for each.
+ * report     a page without its unused bytes, MIROKEFA_PATH_BYTES(inputs) for each path; it may come from anywhere, and
+ *            with 0 bytes it has no path. Read only.
+ * rows       the values of the rows, one row behind the other. Read only.
+ * answers    a word for each row: the number (word 0) of the first path in the report whose intervals hold the row, or
+ *            MIROKEFA_NO_PATH. It overlaps nothing else lent. */
+uint64_t mirokefa_place(
+    uint64_t inputs,
+    const uint8_t *report, size_t report_bytes,
+    const uint64_t *rows, size_t row_words,
+    uint64_t *answers, size_t answer_words);
 
 #ifdef __cplusplus
 }

@@ -1,5 +1,7 @@
 //! The proved library as a host lends to it: a slice passes as a pointer and its length in elements.
 
+#![allow(dead_code)] // a program that includes this file may make one of the calls alone
+
 /// `refused` is the number of the question that was answered by no, 0 for an accepted call.
 #[repr(C)]
 #[derive(Clone, Copy, Debug, PartialEq, Eq)]
@@ -24,6 +26,16 @@ extern "C" {
         report_bytes: usize,
         first: u64,
     ) -> Reply;
+
+    fn mirokefa_place(
+        inputs: u64,
+        report: *const u8,
+        report_bytes: usize,
+        rows: *const u64,
+        row_words: usize,
+        answers: *mut u64,
+        answer_words: usize,
+    ) -> u64;
 }
 
 pub fn explore(
@@ -50,6 +62,22 @@ pub fn explore(
             report.as_mut_ptr(),
             report.len(),
             first,
+        )
+    }
+}
+
+/// 0, or the number of a refusal.
+pub fn place(inputs: u64, report: &[u8], rows: &[u64], answers: &mut [u64]) -> u64 {
+    // SAFETY: as above
+    unsafe {
+        mirokefa_place(
+            inputs,
+            report.as_ptr(),
+            report.len(),
+            rows.as_ptr(),
+            rows.len(),
+            answers.as_mut_ptr(),
+            answers.len(),
         )
     }
 }

@@ -1,6 +1,8 @@
-//! Makes, shows and explores jobs. Exploring is done by the proved library; the rest is not proved.
+//! Makes, shows and explores jobs, and places rows in their paths. Exploring and placing are done by
+//! the proved library; the rest is not proved.
 
 mod library;
+mod place;
 
 use formats::blocks::flat;
 use formats::job::{self, Job};
@@ -8,7 +10,9 @@ use formats::limits::{
     path_bytes, BLOCK_BYTES, MOST_BLOCKS, MOST_INPUTS, USUAL_PAGE_PATHS, USUAL_TABLE_WORDS,
 };
 use formats::report::{self, Shown};
-use formats::{numbers, show, source};
+use formats::source::{self, Fault};
+use formats::{numbers, show};
+use library::Reply;
 use std::fs::File;
 use std::io::{Read, Write};
 use std::process::ExitCode;
@@ -17,7 +21,7 @@ const USAGE: &str = include_str!("usage.txt");
 
 /// Larger pages are not worth their memory: ask for the next one.
 const MOST_PAGE_PATHS: u64 = 65_536;
-const MOST_SOURCE_BYTES: usize = 1 << 24;
+const MOST_TEXT_BYTES: usize = 1 << 24;
 
 // Exit statuses.
 const TURNED_AWAY: u8 = 1;
@@ -35,16 +39,46 @@ fn output(text: impl Into<Vec<u8>>) -> Output {
     Output { out: text.into(), ..Output::default() }
 }
 
-fn turned_away(number: u64) -> Output {
-    let note = format!("mirokefa-job: refusal {number}: {}\n", numbers::refusal_text(number));
-    Output { out: format!("turned away {number}\n").into(), note, status: TURNED_AWAY }
+/// Why a command stops: a fault's message, of whole lines, or the number of a refusal.
+#[derive(Debug, PartialEq, Eq)]
+enum Stop {
+    Fault(String),
+    Refused(u64),
 }
 
-/// A fault's message, of whole lines.
-type Result<T> = std::result::Result<T, String>;
+type Result<T> = std::result::Result<T, Stop>;
 
-fn fault(what: &str, message: impl std::fmt::Display) -> String {
-    format!("{what}: {message}\n")
+fn fault(what: &str, message: impl std::fmt::Display) -> Stop {
+    Stop::Fault(format!("{what}: {message}\n"))
+}
+
+/// What is wrong with the lines of a text file.
+fn line_faults(name: &str, faults: &[Fault]) -> Stop {
+    let line = |fault: &Fault| format!("{name}:{}: {}\n", fault.line, fault.message);
+    Stop::Fault(faults.iter().map(line).collect())
+}
+
+fn usage() -> Stop {
+    Stop::Fault(USAGE.to_string())
+}
+
+/// The library's number: 0, or that of a refusal.
+fn accepted(number: u64) -> Result<()> {
+    match number {
+        0 => Ok(()),
+        _ => Err(Stop::Refused(number)),
+    }
+}
+
+fn stopped(stop: Stop) -> Output {
+    match stop {
+        Stop::Fault(note) => Output { note, status: FAULT, ..Output::default() },
+        Stop::Refused(number) => {
+            let words = numbers::refusal_text(number);
+            let note = format!("mirokefa-job: refusal {number}: {words}\n");
+            Output { note, status: TURNED_AWAY, ..output(format!("turned away {number}\n")) }
+        }
+    }
 }
 
 // ---------------------------------------------------------------------------------------------
@@ -58,27 +92,29 @@ fn read_file(name: &str, most: usize) -> Result<Vec<u8>> {
     Ok(bytes)
 }
 
-fn read_source(name: &str) -> Result<Job> {
-    let bytes = read_file(name, MOST_SOURCE_BYTES)?;
-    if bytes.len() > MOST_SOURCE_BYTES {
-        return Err(fault(name, "the file is too long for a source text"));
+/// A source or a file of rows.
+fn read_text(name: &str) -> Result<String> {
+    let bytes = read_file(name, MOST_TEXT_BYTES)?;
+    if bytes.len() > MOST_TEXT_BYTES {
+        return Err(fault(name, format!("the text has more than {MOST_TEXT_BYTES} bytes")));
     }
-    let text = std::str::from_utf8(&bytes).map_err(|error| {
-        let lines = bytes[..error.valid_up_to()].iter().filter(|&&byte| byte == b'\n').count();
-        fault(&format!("{name}:{}", lines + 1), "this is not UTF-8 text")
-    })?;
-    source::assemble(text).map_err(|faults| {
-        let line = |at: &source::Fault| fault(&format!("{name}:{}", at.line), &at.message);
-        faults.iter().map(line).collect()
+    String::from_utf8(bytes).map_err(|error| {
+        let before = &error.as_bytes()[..error.utf8_error().valid_up_to()];
+        let line = before.iter().filter(|&&byte| byte == b'\n').count() + 1;
+        fault(&format!("{name}:{line}"), "this is not UTF-8 text")
     })
 }
 
-/// A job from its source or from its blocks; the inner error is a refusal.
-fn read_job(name: &str) -> Result<std::result::Result<Job, u64>> {
+fn read_source(name: &str) -> Result<Job> {
+    source::assemble(&read_text(name)?).map_err(|faults| line_faults(name, &faults))
+}
+
+/// A job from its source or from its blocks.
+fn read_job(name: &str) -> Result<Job> {
     if name.ends_with(".s") {
-        return read_source(name).map(Ok);
+        return read_source(name);
     }
-    Ok(job::read(&read_file(name, MOST_BLOCKS * BLOCK_BYTES)?))
+    job::read(&read_file(name, MOST_BLOCKS * BLOCK_BYTES)?).map_err(Stop::Refused)
 }
 
 // ---------------------------------------------------------------------------------------------
@@ -89,8 +125,7 @@ fn make(name: &str) -> Result<Output> {
 }
 
 fn show(name: &str) -> Result<Output> {
-    let shown = |job: Job| output(show::job_text(&job));
-    read_job(name).map(|read| read.map_or_else(turned_away, shown))
+    read_job(name).map(|job| output(show::job_text(&job)))
 }
 
 fn report(name: &str) -> Result<Output> {
@@ -116,8 +151,8 @@ fn options(arguments: &[String]) -> Result<Options> {
             ("--registers", _) => options.shown = Shown::All,
             ("--first", left) => options.first = Some(option_number(argument, left.next())?),
             ("--paths", left) => options.paths = path_count(argument, left.next())?,
-            ("--report", left) => options.report = Some(left.next().ok_or(USAGE)?.clone()),
-            _ => return Err(USAGE.to_string()),
+            ("--report", left) => options.report = Some(left.next().ok_or_else(usage)?.clone()),
+            _ => return Err(usage()),
         }
     }
     Ok(options)
@@ -138,16 +173,25 @@ fn path_count(option: &str, text: Option<&String>) -> Result<usize> {
 
 fn explore(name: &str, arguments: &[String]) -> Result<Output> {
     let options = options(arguments)?;
-    match read_job(name)? {
-        Ok(job) => explore_job(&job, &options),
-        Err(number) => Ok(turned_away(number)),
-    }
+    explore_job(&read_job(name)?, &options)
 }
 
 fn explore_job(job: &Job, options: &Options) -> Result<Output> {
+    let first = options.first.unwrap_or(job.first);
+    let (page, reply) = explore_page(job, options.paths, first)?;
+    if let Some(name) = &options.report {
+        std::fs::write(name, &page).map_err(|error| fault(name, error))?;
+    }
+    let inputs = job.intervals.len();
+    let records = report::read_pages(&page[..reply.count as usize * path_bytes(inputs)], inputs);
+    let records = records.map_err(|message| fault("the library's report", message))?;
+    Ok(output(report::listing(&records, reply.more != 0, options.shown)))
+}
+
+/// A page of so many paths, zero where none is written, and the library's reply.
+fn explore_page(job: &Job, paths: usize, first: u64) -> Result<(Vec<u8>, Reply)> {
     let mut table = vec![0; USUAL_TABLE_WORDS];
-    let size = path_bytes(job.intervals.len());
-    let mut page = vec![0; options.paths * size];
+    let mut page = vec![0; paths * path_bytes(job.intervals.len())];
     let reply = library::explore(
         &job.code,
         &job.whole_memory(),
@@ -155,18 +199,10 @@ fn explore_job(job: &Job, options: &Options) -> Result<Output> {
         job.limit,
         &mut table,
         &mut page,
-        options.first.unwrap_or(job.first),
+        first,
     );
-    if reply.refused != 0 {
-        return Ok(turned_away(reply.refused));
-    }
-    if let Some(name) = &options.report {
-        std::fs::write(name, &page).map_err(|error| fault(name, error))?;
-    }
-    let written = &page[..reply.count as usize * size];
-    let records = report::read_pages(written, job.intervals.len());
-    let records = records.map_err(|message| fault("the library's report", message))?;
-    Ok(output(report::listing(&records, reply.more != 0, options.shown)))
+    accepted(reply.refused)?;
+    Ok((page, reply))
 }
 
 // ---------------------------------------------------------------------------------------------
@@ -182,15 +218,15 @@ fn run(arguments: &[String]) -> Result<Output> {
         ["show", name] => show(name),
         ["report", name] => report(name),
         ["explore", name, ..] => explore(name, &arguments[2..]),
-        _ => Err(USAGE.to_string()),
+        ["place", rule, rows] => place::place(rule, rows),
+        _ => Err(usage()),
     }
 }
 
 fn main() -> ExitCode {
     let arguments: Vec<String> =
         std::env::args_os().skip(1).map(|word| word.to_string_lossy().into_owned()).collect();
-    let output =
-        run(&arguments).unwrap_or_else(|note| Output { note, status: FAULT, ..Output::default() });
+    let output = run(&arguments).unwrap_or_else(stopped);
     // the notes last, and a closed standard output is a fault and no panic
     let written = std::io::stdout().write_all(&output.out).and_then(|_| std::io::stdout().flush());
     let _ = std::io::stderr().write_all(output.note.as_bytes());
@@ -208,7 +244,7 @@ mod tests {
 
     fn listing_of(job: &Job, words: &[&str]) -> String {
         let words: Vec<String> = words.iter().map(|word| word.to_string()).collect();
-        let output = explore_job(job, &options(&words).unwrap()).unwrap();
+        let output = explore_job(job, &options(&words).unwrap()).unwrap_or_else(stopped);
         String::from_utf8(output.out).unwrap()
     }
 
@@ -263,8 +299,17 @@ mod tests {
         let run_words = |words: &[&str]| {
             run(&words.iter().map(|word| word.to_string()).collect::<Vec<String>>())
         };
-        for words in [&[][..], &["make"], &["make", "a", "b"], &["explore"], &["list", "a"]] {
-            assert_eq!(run_words(words).err().as_deref(), Some(USAGE));
+        let wrong = [
+            &[][..],
+            &["make"],
+            &["make", "a", "b"],
+            &["explore"],
+            &["list", "a"],
+            &["place", "a.s"],
+            &["place", "a.s", "a.rows", "b.rows"],
+        ];
+        for words in wrong {
+            assert_eq!(run_words(words).err(), Some(usage()));
         }
         for words in [&["help"][..], &["-h"], &["--help"], &["make", "-h"], &["explore", "--help"]]
         {
@@ -277,5 +322,6 @@ mod tests {
             assert!(run_words(&[&["explore", "none.job"], words].concat()).is_err());
         }
         assert!(run_words(&["show", "no/such/file.job"]).is_err());
+        assert!(run_words(&["place", "no/such/file.s", "no/such/file.rows"]).is_err());
     }
 }

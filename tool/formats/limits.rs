@@ -9,6 +9,8 @@ pub const MOST_STEPS: u64 = 65_536;
 pub const ENTRY_WORDS: usize = 8;
 /// The first path wanted is below this.
 pub const PATH_NUMBERS: u64 = 1 << 32;
+/// Rows that one call places.
+pub const MOST_ROWS: usize = 1024;
 
 /// The last word of a block checks the others.
 pub const BLOCK_WORDS: usize = 64;
@@ -47,6 +49,7 @@ mod tests {
             ("MOST_STEPS", MOST_STEPS as usize),
             ("ENTRY_WORDS", ENTRY_WORDS),
             ("PATH_NUMBERS (UINT64_C(1) <<", PATH_NUMBERS.ilog2() as usize),
+            ("MOST_ROWS", MOST_ROWS),
             ("BLOCK_WORDS", BLOCK_WORDS),
             ("BLOCK_BYTES", BLOCK_BYTES),
             ("MOST_BLOCKS", MOST_BLOCKS),

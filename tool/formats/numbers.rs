@@ -1,12 +1,15 @@
-//! The numbers of document 01 in words; docs/NUMBERS.md says more.
+//! The numbers of documents 01 and 02 in words; docs/NUMBERS.md says more.
 
 use crate::limits::*;
 
-// How many there are; they are numbered from 1. A call asks the first questions, a job all of them.
+// How many there are; they are numbered from 1. The first are an exploration's.
 pub const CALL_REFUSALS: u64 = 8;
-pub const REFUSALS: u64 = 11;
+pub const REFUSALS: u64 = 13;
 pub const KINDS: u64 = 9;
 pub const REASONS: u64 = 7;
+
+/// What placing answers for a row that no path holds.
+pub const NO_PATH: u64 = u64::MAX;
 
 pub fn refusal_text(number: u64) -> String {
     match number {
@@ -21,6 +24,8 @@ pub fn refusal_text(number: u64) -> String {
         9 => format!("the job is not 1 to {MOST_BLOCKS} whole blocks of {BLOCK_BYTES} bytes"),
         10 => "a block's check does not agree with its words".to_string(),
         11 => "the header's first word is not 1, blocks are missing or too many, or an unused word is not 0".to_string(),
+        12 => format!("the input count is not 1 to {MOST_INPUTS}, or the report is not whole records of that count with checks that agree"),
+        13 => format!("the rows are not whole or more than {MOST_ROWS}, or there is not one answer for each"),
         _ => "no such refusal".to_string(),
     }
 }

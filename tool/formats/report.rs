@@ -34,6 +34,14 @@ pub struct Record {
     pub registers: [Interval; REGISTERS],
 }
 
+impl Record {
+    /// Does the path's box hold this row of inputs?
+    pub fn holds(&self, row: &[u64]) -> bool {
+        let within = |(&(low, high), value): (&Interval, &u64)| (low..=high).contains(value);
+        self.intervals.len() == row.len() && self.intervals.iter().zip(row).all(within)
+    }
+}
+
 /// Which registers are shown with a path.
 #[derive(Clone, Copy, Debug, PartialEq, Eq)]
 pub enum Shown {
@@ -83,13 +91,30 @@ fn record(first: &[u64], second: &[u64]) -> Record {
 
 /// The paths of whole pages of a job with so many inputs.
 pub fn read_pages(bytes: &[u8], inputs: usize) -> Result<Vec<Record>, String> {
-    bytes.chunks(path_bytes(inputs)).map(read).collect()
+    let records = bytes.chunks(path_bytes(inputs)).enumerate();
+    records.map(|(place, bytes)| read(bytes).map_err(|fault| no_path(place, &fault))).collect()
+}
+
+fn no_path(place: usize, fault: &str) -> String {
+    format!("record {place} is no path: {fault}")
 }
 
 /// The input count that a report's first record names, none of a report that is shorter.
-fn inputs_of(report: &[u8]) -> usize {
+pub fn inputs_of(report: &[u8]) -> usize {
     let words = report.chunks_exact(8);
     words.map(word).nth(INPUT_COUNT).unwrap_or(0) as usize
+}
+
+/// A report without the whole records of zeros at its end: no path was written there.
+pub fn used(report: &[u8]) -> &[u8] {
+    let size = path_bytes(inputs_of(report));
+    let is_used = |record: &[u8]| record.len() < size || !is_unwritten(record);
+    let count = report.chunks(size).rposition(is_used).map_or(0, |last| last + 1);
+    &report[..report.len().min(count * size)]
+}
+
+fn is_unwritten(record: &[u8]) -> bool {
+    record.iter().all(|&byte| byte == 0)
 }
 
 // ---------------------------------------------------------------------------------------------
@@ -123,12 +148,15 @@ pub fn register_lines(record: &Record, shown: Shown) -> String {
         .collect()
 }
 
-fn end_line(record: &Record) -> String {
-    let reason = match record.kind {
-        NOT_FOLLOWED => format!(": {}", reason_text(record.reason)),
-        _ => String::new(),
-    };
-    format!("    {}{reason}; inputs read {}\n", kind_text(record.kind), record.reads)
+/// How a path ends, in words; the exit interval is that of all its choices.
+pub fn end_text(record: &Record) -> String {
+    let kind = kind_text(record.kind);
+    match (record.kind, record.exit) {
+        (EXITED, (low, high)) if low == high => format!("{kind} with {low}"),
+        (EXITED, (low, high)) => format!("{kind} with {low} to {high}"),
+        (NOT_FOLLOWED, _) => format!("{kind}: {}", reason_text(record.reason)),
+        _ => kind.to_string(),
+    }
 }
 
 /// The listing of a page that the library has written.
@@ -150,10 +178,10 @@ pub fn report_text(bytes: &[u8]) -> Result<(String, usize), String> {
     for (place, bytes) in bytes.chunks(size).enumerate() {
         match read(bytes) {
             Ok(record) => text += &record_text(&record),
-            Err(_) if bytes.iter().all(|&byte| byte == 0) => empty += 1,
+            Err(_) if is_unwritten(bytes) => empty += 1,
             Err(fault) => {
                 faults += 1;
-                text += &format!("record {place} is no path: {fault}\n");
+                text += &(no_path(place, &fault) + "\n");
             }
         }
     }
@@ -164,7 +192,8 @@ pub fn report_text(bytes: &[u8]) -> Result<(String, usize), String> {
 }
 
 fn record_text(record: &Record) -> String {
-    line(record) + &end_line(record) + &register_lines(record, Shown::NotZero)
+    let end = format!("    {}; inputs read {}\n", end_text(record), record.reads);
+    line(record) + &end + &register_lines(record, Shown::NotZero)
 }
 
 #[cfg(test)]
@@ -243,6 +272,38 @@ mod tests {
         let first = [(1, 8), (2, 20), (3, 5), (4, 2), (5, 1), (13, 2), (6, 3), (14, 4), (23, 2)];
         let record = read(&bytes_of(&first, &[])).unwrap();
         assert_eq!(line(&record), "path 0 end 8 at 20 steps 5 in 1..2 in 3..4 reason 2\n");
+    }
+
+    #[test]
+    fn ends_in_words() {
+        let end = |first: &[(usize, u64)]| end_text(&read(&bytes_of(first, &[])).unwrap());
+        assert_eq!(end(&[(1, 1), (21, 3), (22, 3)]), "exit with 3");
+        assert_eq!(end(&[(1, 1), (21, 0), (22, u64::MAX)]), format!("exit with 0 to {}", u64::MAX));
+        assert_eq!(end(&[(1, 7)]), "the step limit is reached");
+        assert_eq!(end(&[(1, 8), (23, 4)]), "not followed: the divisor varies");
+        assert_eq!(end(&[(1, 8), (23, 9)]), "not followed: no such reason");
+    }
+
+    #[test]
+    fn a_box_holds_its_ends_and_what_is_between() {
+        let first = [(1, 1), (4, 2), (5, 3), (13, 5), (6, 0), (14, u64::MAX)];
+        let record = read(&bytes_of(&first, &[])).unwrap();
+        assert!([[3, 0], [4, 9], [5, u64::MAX]].iter().all(|row| record.holds(row)));
+        assert!([[2, 0], [6, 0]].iter().all(|row| !record.holds(row)));
+        assert!(!record.holds(&[4]) && !record.holds(&[4, 4, 4]));
+    }
+
+    #[test]
+    fn unwritten_records_are_cut_at_the_end_alone() {
+        let (path, empty) = (path_of_a(), [0; RECORD]);
+        assert_eq!(used(&[&path[..], &path, &empty, &empty].concat()), [&path[..], &path].concat());
+        assert_eq!(used(&path), path);
+        let between = [&empty[..], &path].concat();
+        assert_eq!(used(&between), between);
+        let part = [&path[..], &[0; RECORD - 1]].concat();
+        assert_eq!(used(&part), part);
+        assert!(used(&empty).is_empty() && used(&[]).is_empty());
+        assert_eq!(used(&[0; 20]), [0; 20]);
     }
 
     #[test]

@@ -54,7 +54,7 @@ fn statements<'a>(text: &'a str, faults: &mut Vec<Fault>) -> (Vec<Statement<'a>>
     let mut address = 0;
     for (index, whole) in text.lines().enumerate() {
         let line = index + 1;
-        let mut rest = whole.split('#').next().unwrap_or("").trim();
+        let mut rest = without_comment(whole);
         while let Some((label, after)) = rest.split_once(':') {
             if let Err(message) = put_label(&mut labels, label.trim(), address, line) {
                 faults.push(Fault { line, message });
@@ -69,6 +69,11 @@ fn statements<'a>(text: &'a str, faults: &mut Vec<Fault>) -> (Vec<Statement<'a>>
         statements.push(statement);
     }
     (statements, labels)
+}
+
+/// What a line has before its comment, without the blanks around it.
+pub fn without_comment(line: &str) -> &str {
+    line.split('#').next().unwrap_or("").trim()
 }
 
 fn put_label<'a>(

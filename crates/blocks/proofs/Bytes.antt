@@ -3,7 +3,7 @@
 use mathlib.Core.Path.{_≡_, refl, sym, ap, _∙_}
 use mathlib.Core.List.{List, [], _∷_, _++_, append-nil, append-assoc, flatMap}
 use Prim.Native.Nat.{ℕ, zero, suc, _+_, _*_, _/_, _^_, _≤_, _<_}
-use native.Mathlib.Nat.{pow-suc, pow-le-pow-right}
+use native.Mathlib.Nat.{pow-suc}
 use native.Mathlib.Omega.{arith}
 use lib.ListN.{length, getD, take, drop, replicate, length-append, length-replicate, length-drop}
 use lib.Seq.{drop-cons, drop-drop, take-at, take-append-le, drop-append-le, drop-append-add}
@@ -30,8 +30,37 @@ number-more bs i n h = rw (drop-cons bs i 0 h)
 pub below-more : (n b w : ℕ) → b < 256 → w < 256 ^ n → b + 256 * w < 256 ^ suc n
 below-more n b w hb hw = rw pow-suc (omega arith)
 
-pub below-seven : (n w : ℕ) → n < wordBytes → w < 256 ^ n → w < 2 ^ 56
-below-seven n w h hw = let p : 256 ^ n ≤ 256 ^ 7 = pow-le-pow-right {n = 256} (omega arith) {i = n} {j = 7} (omega arith) in omega arith
+-- four bytes, and eight by halves
+module _ (bs : List ℕ) (i : ℕ) where
+  four-more : (n : ℕ) → i + 4 ≤ length bs
+      → numberOf (take (4 + n) (drop i bs))
+      ≡ getD bs i 0 + 256 * (getD bs (i + 1) 0 + 256 * (getD bs (i + 2) 0 + 256 * (getD bs (i + 3) 0 + 256 * numberOf (take n (drop (i + 4) bs)))))
+  four-more n h =
+      let e : 4 + n ≡ suc (suc (suc (suc n))) = omega arith in
+      let one : suc i ≡ i + 1 = omega arith in
+      let two : suc (i + 1) ≡ i + 2 = omega arith in
+      let three : suc (i + 2) ≡ i + 3 = omega arith in
+      let four : suc (i + 3) ≡ i + 4 = omega arith in
+      rw (
+        e,
+        number-more bs i (suc (suc (suc n))) (omega arith),
+        one,
+        number-more bs (i + 1) (suc (suc n)) (omega arith),
+        two,
+        number-more bs (i + 2) (suc n) (omega arith),
+        three,
+        number-more bs (i + 3) n (omega arith),
+        four,
+      )
+
+  pub number-four : i + 4 ≤ length bs
+      → numberOf (take 4 (drop i bs)) ≡ getD bs i 0 + 256 * getD bs (i + 1) 0 + 65536 * (getD bs (i + 2) 0 + 256 * getD bs (i + 3) 0)
+  unfolding numberOf
+  number-four h = omega (arith, four-more 0 h)
+
+  pub number-halves : i + wordBytes ≤ length bs
+      → numberOf (take wordBytes (drop i bs)) ≡ numberOf (take 4 (drop i bs)) + 2 ^ 32 * numberOf (take 4 (drop (i + 4) bs))
+  number-halves h = omega (arith, four-more 4 (omega arith), number-four (omega arith))
 
 -- the bytes of words
 

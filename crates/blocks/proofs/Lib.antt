@@ -1,12 +1,14 @@
 -- The laws of blocks, from the bottom up.
 --     Bytes       words in bytes and back; the words of a block
---     Each        one more number of those that a test is asked of
+--     Each        a test of numbers in a row: one more of them, and all of them
 --     Check       changing just one payload word always changes the check
 --     Puts        bytes put into a list
 --     Written     how a block comes to be written, word by word
 --     Rows        the words of a path's two blocks, as the code has them
 --     Records     the words of a report's records
 --     Reading     the bytes of a path's record, read back, tell the path
+--     Checks      every check of written records agrees
+--     Copied      words copied one by one over a list
 pub mod Bytes
 pub mod Each
 pub mod Check
@@ -15,3 +17,5 @@ pub mod Written
 pub mod Rows
 pub mod Records
 pub mod Reading
+pub mod Checks
+pub mod Copied

@@ -156,10 +156,10 @@ module _ (n : ℕ) (p : Path) (f : Fits n p) where
   abbrev bytes : List ℕ
   bytes = recordOf n p
 
-  few : length (firstWords n p) ≤ payloadWords
+  pub few : length (firstWords n p) ≤ payloadWords
   few = first-few n p (f .inputs) (f .registers)
 
-  few-again : length (secondWords n p) ≤ payloadWords
+  pub few-again : length (secondWords n p) ≤ payloadWords
   few-again = second-few n p (f .inputs) (f .registers)
 
   in-first : (k : ℕ) → k ≤ payloadWords → wordAt bytes k ≡ wordAt (block (firstWords n p)) k

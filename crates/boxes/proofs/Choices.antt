@@ -84,6 +84,13 @@ inside-at (v ∷ b) [] h i = absurd h
 inside-at (v ∷ b) (x ∷ c) h zero = (h .0, h .1)
 inside-at (v ∷ b) (x ∷ c) h (suc i) = inside-at b c (h .2) i
 
+pub at-inside : (b : Box) (c : Choice) → length c ≡ length b
+    → ((i : ℕ) → i < length b → (at (lows b) i ≤ at c i) × (at c i ≤ at (highs b) i)) → Inside c b
+at-inside [] [] e h = tt
+at-inside [] (x ∷ c) e h = absurd (omega arith)
+at-inside (v ∷ b) [] e h = absurd (omega arith)
+at-inside (v ∷ b) (x ∷ c) e h = let (l, m) = h 0 (omega arith) in (l, m, at-inside b c (omega arith) (λ i k. h (suc i) (omega arith)))
+
 -- a choice of the box with another value of one input
 pub inside-set : (b : Box) (c : Choice) (i x : ℕ) → Inside c b → at (lows b) i ≤ x → x ≤ at (highs b) i → Inside (set c i x) b
 inside-set [] [] i x j l h = tt

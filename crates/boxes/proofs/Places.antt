@@ -35,6 +35,11 @@ module _ {A : Type 0} where
   place-exists (x ∷ l) zero h = (x, refl)
   place-exists (x ∷ l) (suc i) h = place-exists l i (omega arith)
 
+  pub place-below : {x : A} (l : List A) (n : ℕ) → getElem? l n ≡ some x → n < length l
+  place-below [] n e = let z : _≡_ {A = ℕ} 0 1 = cc in absurd (omega arith)
+  place-below (y ∷ l) zero e = omega arith
+  place-below (y ∷ l) (suc n) e = omega (arith, place-below l n e)
+
   pub place-take : {x : A} (k : ℕ) (l : List A) (i : ℕ) → getElem? (take k l) i ≡ some x → getElem? l i ≡ some x
   place-take zero l i e = let z : _≡_ {A = ℕ} 0 1 = cc in absurd (omega arith)
   place-take (suc k) [] i e = e

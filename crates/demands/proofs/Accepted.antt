@@ -16,7 +16,7 @@ use Rattle.listing.specs.Listing.{Path, pathOf, listing}
 use Rattle.paths.proofs.Paths.{listing-ended}
 use Rattle.riscu.specs.Limits.{codeWords, memoryWords}
 use Rattle.blocks.specs.Record.{mostInputs}
-use Rattle.calls.specs.Call.{Call, Below, boxOf, inOrder, asks, questions, refusalOf, jobOf}
+use Rattle.calls.specs.Call.{Call, inputsOf, Below, boxOf, inOrder, asks, questions, refusalOf, jobOf}
 use Rattle.calls.specs.declared.Refusal.{Refusal}
 use Rattle.calls.specs.declared.Refusal.the-variants.{Code, Inputs, Order, Memory}
 use Rattle.calls.proofs.Asked.{all-yes}
@@ -39,21 +39,30 @@ highs-below n (l ∷ []) p h k = p
 highs-below n (l ∷ (x ∷ v)) p h zero = h 1
 highs-below n (l ∷ (x ∷ v)) p h (suc k) = highs-below n v p (λ i. h (suc (suc i))) k
 
-box-length : (v : List ℕ) → 2 * length (boxOf v) ≤ length v
+-- the box of whole pairs has an interval for each
+pub pairs : (v : List ℕ) → length v % 2 ≡ 0 → 2 * length (boxOf v) ≡ length v
 unfolding boxOf
-box-length [] = omega arith
-box-length (l ∷ []) = omega arith
-box-length (l ∷ (x ∷ v)) = omega (arith, box-length v)
+pairs [] e = refl
+pairs (l ∷ []) e = absurd (omega arith)
+pairs (l ∷ (h ∷ v)) e = omega (arith, pairs v (omega arith))
 
 module _ (memory : List ℕ) (words : ℕ) (c : Call) (e : refusalOf memory words c ≡ none) where
   pub accepted-yes : (q : Refusal) → asks memory words c q ≡ true
   accepted-yes q = all-yes (asks memory words c) questions .0 e q (among-questions q)
 
+  whole-pairs : (2 * length (boxOf (c .intervals)) ≡ length (c .intervals)) × (length (c .intervals) ≤ 2 * mostInputs)
+  unfolding asks
+  whole-pairs =
+      let (even, few) = both (eqb (length (c .intervals) % 2) 0) _ (accepted-yes Inputs) in
+      (pairs (c .intervals) (eqb-true _ _ even), leb-true (length (c .intervals)) (2 * mostInputs) few)
+
   pub job-inputs : length (jobOf memory words c .box) ≤ mostInputs
-  unfolding jobOf asks
-  job-inputs =
-      let l = leb-true (length (c .intervals)) (2 * mostInputs) (both (eqb (length (c .intervals) % 2) 0) _ (accepted-yes Inputs) .1) in
-      omega (arith, box-length (c .intervals))
+  unfolding jobOf
+  job-inputs = omega (arith, whole-pairs)
+
+  pub inputs-counted : length (jobOf memory words c .box) ≡ inputsOf c
+  unfolding jobOf
+  inputs-counted = omega (arith, whole-pairs .0)
 
   pub accepted-sound : Below (2 ^ 64) memory → Below (2 ^ 64) (c .intervals) → Sound (jobOf memory words c) (jobOf memory words c .box)
   unfolding jobOf asks

@@ -26,7 +26,7 @@ use Rattle.corners.specs.Good.{Sound}
 
 -- of what `called` leaves
 
-accepted-refusal : (memory table : List ℕ) (c : Call) → isPage (called memory table c .reply .answer) ≡ true
+pub accepted-refusal : (memory table : List ℕ) (c : Call) → isPage (called memory table c .reply .answer) ≡ true
     → refusalOf memory (length table) c ≡ none
 unfolding called replyTo
 accepted-refusal memory table c e = page-passes memory (length table) c (refusalOf memory (length table) c) e

@@ -20,7 +20,7 @@ use Rattle.calls.specs.Call.{Call, callOf, Below, boxOf, asks, refusalOf, jobOf
 use Rattle.calls.specs.declared.Refusal.{Refusal}
 use Rattle.calls.specs.declared.Refusal.the-variants.{Inputs, Limit, Memory, Report, First}
 use Rattle.calls.specs.declared.Answer.the-variants.{Page}
-use Rattle.demands.proofs.Accepted.{both, accepted-yes, accepted-sound}
+use Rattle.demands.proofs.Accepted.{both, pairs, accepted-yes, accepted-sound}
 use Rattle.riscu.specs.Limits.{memoryWords}
 use Rattle.calls.specs.Limits.{mostSteps, entryWords, firstEnd}
 use Rattle.decide.specs.declared.Limits.{Limits}
@@ -30,12 +30,6 @@ use Rattle.explorer.specs.Finished.{endsOf, Begins, Finished}
 use Rattle.explorer.specs.declared.Standing.{Standing}
 
 -- the box of whole pairs, by its lows and highs
-
-pairs : (v : List ℕ) → length v % 2 ≡ 0 → 2 * length (boxOf v) ≡ length v
-unfolding boxOf
-pairs [] e = refl
-pairs (l ∷ []) e = absurd (omega arith)
-pairs (l ∷ (h ∷ v)) e = omega (arith, pairs v (omega arith))
 
 pair-at : (v : List ℕ) (i : ℕ) → i < length (boxOf v) → getD (boxOf v) i (0 ⋯ 0) ≡ getD v (2 * i + 0) 0 ⋯ getD v (2 * i + 1) 0
 unfolding boxOf

@@ -16,6 +16,9 @@ use Rattle.calls.proofs.Numbers.{reply-numbers}
 use Rattle.demands.proofs.Refuses.{refused, accepted}
 use Rattle.jobs.specs.Job.{jobNumber}
 use Rattle.jobs.specs.declared.JobRefusal.{JobRefusal}
+use Rattle.reports.specs.Placing.{PlaceCall, placed, answerNumber, asks as placeAsks, questions as placeQuestions, number as placeNumber}
+use Rattle.reports.specs.declared.PlaceRefusal.{PlaceRefusal}
+use Rattle.reports.proofs.Promises.{places, placed-numbers}
 use Rattle.serving.specs.Served.{served, outcomeOf}
 use Rattle.serving.specs.Server.{serverQuestions, serverAsks}
 use Rattle.serving.specs.declared.Served.{Served}
@@ -43,3 +46,11 @@ module _ (bytes report : List ℕ) where
 
   pub serve-refused : (r : JobRefusal) → (outcomeOf answered .refused ≡ jobNumber r) ↔ FirstNo (serverAsks bytes report) serverQuestions r
   serve-refused r = Iff·trans (outcome-numbers answered .refused r) (server-refused bytes report r)
+
+-- of `mirokefa_place`
+module _ (c : PlaceCall) where
+  pub place-accepted : (answerNumber (placed c .answer) ≡ 0) ↔ ((q : PlaceRefusal) → placeAsks c q ≡ true)
+  place-accepted = Iff·trans (placed-numbers (placed c .answer) .accepted) (places c .accepted)
+
+  pub place-refused : (r : PlaceRefusal) → (answerNumber (placed c .answer) ≡ placeNumber r) ↔ FirstNo (placeAsks c) placeQuestions r
+  place-refused r = Iff·trans (placed-numbers (placed c .answer) .refused r) (places c .refused r)

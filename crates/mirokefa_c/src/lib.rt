@@ -1,13 +1,16 @@
-// The functions for C: the exploration of a lent job, and the server's call on job blocks, as `extern "C"` with the answer in numbers.
+// The functions for C: the exploration of a lent job, the server's call on job blocks, and rows placed in a report, as `extern "C"` with the answer in numbers.
 // Each slice comes as a pointer and its length in elements.
 // The archive of this crate, libmirokefa_c.a, is what include/mirokefa.h declares.
 use calls::Outcome;
 use calls::reply;
 use engine::explore;
+use reports::answer_number;
+use reports::placing::place;
 use serving::outcome;
 use serving::serve;
 ghost use mathlib.Core.Path.{_≡_};
 ghost use Rattle.calls.specs.Border.{replyOf, callLent, calledOn};
+ghost use Rattle.reports.specs.Placing.{answerNumber, placedOn};
 ghost use Rattle.serving.specs.Served.{outcomeOf, servedOn};
 
 // Explores a job and writes a page of its paths, or refuses the call.
@@ -37,4 +40,19 @@ pub extern "C" fn mirokefa_serve(job: &[u8], report: &mut [u8]) -> Outcome
 {
     let a = serve(job, report);
     outcome(a)
+}
+
+// Which path of a report does each row take?
+#[no_mangle]
+pub extern "C" fn mirokefa_place(
+    inputs: u64,
+    report: &[u8],
+    rows: &[u64],
+    answers: &mut [u64],
+) -> u64
+    ensures answer { λ r. ⌜ r ≡ answerNumber (placedOn inputs report rows answers .answer) ⌝ }
+    ensures words { λ r. ⌜ now (answers .exit) ≡ placedOn inputs report rows answers .answers ⌝ }
+{
+    let a = place(inputs, report, rows, answers);
+    answer_number(a)
 }

@@ -1,0 +1,245 @@
+-- The rows of a job in its own complete report: each row of the starting box has the number of the one path that holds it.
+-- Assumes nothing.
+use mathlib.Core.Path.{_≡_, refl, sym, _∙_}
+use mathlib.Core.Bool.{true, and-eq-true-iff}
+use mathlib.Core.List.{List, [], _∷_, append-nil, flatMap, List·Memᴰ·eq-of-singleton}
+use mathlib.Core.Option.{none}
+use Prim.Native.Nat.{ℕ, _+_, _-_, _*_, _%_, _^_, _≤_, _<_}
+use native.Mathlib.Nat.{zero-add}
+use native.Mathlib.Omega.{arith}
+use lib.Dec.{leb}
+use lib.ListN.{length, drop, length-take, length-drop}
+use lib.Seq.{length-take-le}
+use borrow.Author.Tests.{leb-true, le-leb, eq-eqb}
+use Rattle.boxes.specs.Boxes.{Choice, at, every, lows, highs, Inside, keep, _∈_}
+use Rattle.boxes.proofs.Choices.{inside-length, inside-at, at-inside}
+use Rattle.boxes.proofs.Lists.{by-test}
+use Rattle.boxes.proofs.Places.{place-mem, place-exists, place-below}
+use Rattle.listing.specs.Group.{Job}
+use Rattle.listing.specs.Listing.{Path, listing}
+use Rattle.corners.specs.Good.{Sound}
+use Rattle.blocks.specs.Block.{wordAt, each}
+use Rattle.blocks.specs.Layout as place
+use Rattle.blocks.specs.Reading.{Tells}
+use Rattle.blocks.specs.Record.{mostInputs, recordBytes, records}
+use Rattle.blocks.specs.Report.{recordsIn, recordAt}
+use Rattle.blocks.proofs.Checks.{checks-records}
+use Rattle.blocks.proofs.Each.{each-all, each-at}
+use Rattle.blocks.proofs.Reading.{Fits, records-length, records-at, record-tells}
+use Rattle.calls.specs.Call.{inputsOf, written, refusalOf, jobOf}
+use Rattle.calls.specs.Complete.{IsPath, Complete}
+use Rattle.calls.specs.Engine.{Engine, Lent, Leaves, Meets, Exchange, over, made}
+use Rattle.calls.specs.Together.{Pages, last, isAccepted, bytesWritten, Joined}
+use Rattle.demands.proofs.Accepted.{accepted-sound, job-inputs, inputs-counted, path-inputs, path-registers}
+use Rattle.demands.proofs.Complete.{listing-complete}
+use Rattle.demands.proofs.Demands.{accepted-refusal, demand-2, demand-3, leaves-meets}
+use Rattle.demands.proofs.Faithful.{listing-faithful}
+use Rattle.demands.proofs.Words.{path-fits}
+use Rattle.reports.specs.Readable.{recordsOf, hasCount, readable}
+use Rattle.reports.specs.Placing.{rowsIn, rowAt, between, holds, noPath, placing, PlaceCall, lends, rowsFit, asks, placed}
+use Rattle.reports.specs.Placed.{FirstHolds, OwnReport, OnPath, OwnAnswers}
+use Rattle.reports.specs.declared.PlaceRefusal.{PlaceRefusal}
+use Rattle.reports.specs.declared.PlaceRefusal.the-variants.{Records, Rows}
+use Rattle.reports.specs.declared.Placed.the-variants.{Answered}
+use Rattle.reports.proofs.Records.{countAt, counts-each, row-inside}
+use Rattle.reports.proofs.Listed.{placing-first, placing-none}
+use Rattle.reports.proofs.Promises.{places, row-answer}
+
+-- of a sound job with 1 to 8 inputs whose whole listing is a report
+module _ (j : Job) (sound : Sound j (j .box)) (limit : j .limit < 2 ^ 64) (some-input : 1 ≤ length (j .box)) (few : length (j .box) ≤ mostInputs)
+    (size : length (records 0 (listing j)) < 2 ^ 64) where
+  abbrev n : ℕ
+  n = length (j .box)
+
+  abbrev report : List ℕ
+  report = records 0 (listing j)
+
+  fits : (p : Path) → p ∈ listing j → (length (p .box) ≤ mostInputs) × (length (p .registers) ≡ 32)
+  fits p m = (omega (arith, path-inputs j sound p m), path-registers j sound p m)
+
+  report-length : length report ≡ recordBytes n * length (listing j)
+  report-length = records-length n 0 (listing j) fits
+
+  report-records : recordsIn n report ≡ length (listing j)
+  report-records = omega (arith, report-length)
+
+  path-at : (i : ℕ) → i < recordsIn n report → (p : Path) × IsPath j i p
+  path-at i l = place-exists (listing j) i (omega (arith, report-records))
+
+  words : (p : Path) → p ∈ listing j → (i : ℕ) → i < length (listing j) → Fits i p
+  words p m i l = path-fits j sound limit p m few i (omega (arith, report-length))
+
+  module _ (i : ℕ) (p : Path) (e : IsPath j i p) where
+    in-listing : p ∈ listing j
+    in-listing = place-mem (listing j) i e
+
+    tells : Tells (recordAt n report i) i p
+    tells =
+        rw (records-at n 0 (listing j) fits i p e, zero-add i)
+        (record-tells i p (words p in-listing i (place-below (listing j) i e)))
+
+    inputs-are : length (p .box) ≡ n
+    inputs-are = path-inputs j sound p in-listing
+
+    -- its record holds the choices of its box
+    holds-inside : (row : Choice) → length row ≡ n → holds n row (recordAt n report i) ≡ true → Inside row (p .box)
+    unfolding holds
+    holds-inside row l h =
+        at-inside (p .box) row (omega (arith, inputs-are))
+        (λ k m.
+        let z : k < mostInputs = omega (arith, inputs-are) in
+        let b = each-at (between (recordAt n report i) row) n 0 h k (omega arith) (omega (arith, inputs-are)) in
+        let bytes = recordAt n report i in
+        let (low, high) = and-eq-true-iff (leb (wordAt bytes (place.lows + k)) (at row k)) (leb (at row k) (wordAt bytes (place.highs + k))) .0 b in
+        (rw (tells .low k z) at (leb-true (wordAt bytes (place.lows + k)) (at row k) low), rw (tells .high k z) at (leb-true (at row k) (wordAt bytes (place.highs + k)) high)))
+
+    inside-holds : (row : Choice) → Inside row (p .box) → holds n row (recordAt n report i) ≡ true
+    unfolding holds
+    inside-holds row h =
+        each-all (between (recordAt n report i) row) n 0
+        (λ k l m.
+        let z : k < mostInputs = omega arith in
+        let (low, high) = inside-at (p .box) row h k in
+        rw (tells .low k z, tells .high k z, le-leb _ _ low, le-leb _ _ high))
+
+  -- question 12
+  counts-right : every (hasCount n) (recordsOf n report) ≡ true
+  counts-right =
+      counts-each n report
+      ∙ each-all (countAt n report) (recordsIn n report) 0
+      (λ i l m. let (p, e) = path-at i (omega arith) in eq-eqb _ _ (tells i p e .inputs ∙ inputs-are i p e))
+
+  pub own-readable : readable n report ≡ true
+  unfolding readable
+  own-readable =
+      rw (
+        le-leb _ _ some-input,
+        le-leb _ _ few,
+        eq-eqb (length report % recordBytes n) 0 (omega (arith, report-length)),
+        counts-right,
+        checks-records 0 (listing j) (λ p m i l. words p m i (omega arith)),
+      )
+
+  complete : Complete j
+  complete = listing-complete j sound
+
+  module _ (row : Choice) where
+    abbrev x : ℕ
+    x = placing n (recordsOf n report) row
+
+    -- the path that holds a choice of the starting box has the first record that does
+    pub own-path : Inside row (j .box) → OnPath j row x
+    own-path h =
+        let (m, p, e, i) = complete .some-path row h in
+        let l = inside-length (j .box) row h in
+        let first : FirstHolds n report row m =
+        record {
+          inside = omega (arith, report-records, place-below (listing j) m e);
+          held = inside-holds m p e row i;
+          not-before = λ k b.
+              let (q, f) = path-at k (omega (arith, report-records, place-below (listing j) m e)) in
+              by-test (holds n row (recordAt n report k))
+              (λ y. absurd (omega (arith, complete .one-path row k m q p f e (holds-inside k q f row l y) i)))
+              (λ held-not. held-not);
+        } in
+        let z : x ≡ m = placing-first n report row m first ∙ tells m p e .number in
+        record {
+          path = p;
+          listed = rw z e;
+          inside = i;
+          only = λ k q f g. complete .one-path row k m q p f e g i ∙ sym z;
+          below = omega (arith, z, place-below (listing j) m e, report-length);
+          faithful = listing-faithful j sound p (in-listing m p e);
+        }
+
+    pub own-outside : length row ≡ n → (Inside row (j .box) → ⊥) → x ≡ noPath
+    own-outside l h =
+        placing-none n report row
+        (λ k b.
+        let (p, e) = path-at k b in
+        by-test (holds n row (recordAt n report k))
+        (λ y. absurd (h (listing-faithful j sound p (in-listing k p e) .inputs row (holds-inside k p e row l y))))
+        (λ held-not. held-not))
+
+-- of what an engine that meets the contract of a call wrote
+module _ (E : Engine) (meets : Meets E) {memory table : List ℕ} (x : Exchange) (lent : Lent memory table (x .call))
+    (made-by : E memory table (x .call) (x .left)) (own : OwnReport x) where
+  abbrev j : Job
+  j = jobOf memory (length table) (x .call)
+
+  kept : keep isAccepted (x ∷ []) ≡ x ∷ []
+  unfolding keep
+  kept = rw (own .accepted)
+
+  -- the page is the whole listing
+  joined : Joined j (x ∷ [])
+  joined =
+      let all : (y : Exchange) → y ∈ (x ∷ []) → Lent memory table (y .call) = λ y m. rw (List·Memᴰ·eq-of-singleton m) lent in
+      let pages : Pages (x .call) 0 (x ∷ []) = last (record { code = refl; intervals = refl; limit = refl }) (own .from-0) (own .no-further) in
+      rw kept at (demand-3 E meets all (made made-by over) .pages (x .call) (rw kept pages))
+
+  page-is : bytesWritten x ≡ records 0 (listing j)
+  unfolding flatMap
+  page-is = sym (append-nil (bytesWritten x)) ∙ joined .bytes
+
+  passes : refusalOf memory (length table) (x .call) ≡ none
+  passes = accepted-refusal memory table (x .call) (rw (meets memory table (x .call) (x .left) lent made-by) at (own .accepted))
+
+  sound : Sound j (j .box)
+  sound = accepted-sound memory (length table) (x .call) passes (lent .memory-words) (lent .typed .intervals)
+
+  limit : j .limit < 2 ^ 64
+  unfolding jobOf
+  limit = lent .typed .limit
+
+  counted : length (j .box) ≡ inputsOf (x .call)
+  counted = inputs-counted memory (length table) (x .call) passes
+
+  few : length (j .box) ≤ mostInputs
+  few = job-inputs memory (length table) (x .call) passes
+
+  some-input : 1 ≤ length (j .box)
+  some-input = omega (arith, counted, own .inputs)
+
+  size : length (records 0 (listing j)) < 2 ^ 64
+  size =
+      let used = recordBytes (inputsOf (x .call)) * written (x .left .reply .answer) in
+      rw (sym page-is, length-take used (x .left .reply .report))
+      (omega (arith, demand-2 E meets lent made-by (own .accepted) .size, lent .typed .bytes))
+
+  pub own-placed : (rows answers : List ℕ) → rowsFit (inputsOf (x .call)) rows answers ≡ true
+      → OwnAnswers j (inputsOf (x .call)) rows (placed (lends (inputsOf (x .call)) (bytesWritten x) rows answers))
+  own-placed rows answers fit =
+      record {
+        answered = a;
+        from-box = λ k l h. rw (row-answer c a k l, same (row k)) (own-path j sound limit some-input few size (row k) h);
+        outside = λ k l h. row-answer c a k l ∙ same (row k) ∙ own-outside j sound limit some-input few size (row k) (row-length k l ∙ sym counted) h;
+      }
+    where
+      n : ℕ
+      n = inputsOf (x .call)
+
+      c : PlaceCall
+      c = lends n (bytesWritten x) rows answers
+
+      row : ℕ → List ℕ
+      row k = rowAt n rows k
+
+      asked : (q : PlaceRefusal) → asks c q ≡ true
+      asked Records = unfold asks in rw (page-is, sym counted) (own-readable j sound limit some-input few size)
+      asked Rows = unfold asks in fit
+
+      a : placed c .answer ≡ Answered
+      a = places c .accepted .1 asked
+
+      same : (r : List ℕ) → placing n (recordsOf n (bytesWritten x)) r ≡ placing (length (j .box)) (recordsOf (length (j .box)) (records 0 (listing j))) r
+      same r = rw (page-is, counted)
+
+      row-length : (k : ℕ) → k < rowsIn n rows → length (row k) ≡ n
+      row-length k l = length-take-le n (drop (n * k) rows) (rw length-drop (omega (arith, row-inside n rows k l)))
+
+-- of `explore`, whose contract names the relation `Leaves`
+pub explore-placed : {memory table : List ℕ} (x : Exchange) → Lent memory table (x .call) → Leaves memory table (x .call) (x .left) → OwnReport x
+    → (rows answers : List ℕ) → rowsFit (inputsOf (x .call)) rows answers ≡ true
+    → OwnAnswers (jobOf memory (length table) (x .call)) (inputsOf (x .call)) rows (placed (lends (inputsOf (x .call)) (bytesWritten x) rows answers))
+explore-placed = own-placed Leaves leaves-meets

@@ -1,0 +1,280 @@
+/* Rows placed through the library's border, as the course server does it: in Job A's report, in reports put together from its paths, and
+ * with every refusal. Prints nothing; every byte lent, and between what is lent, is compared. */
+
+#include <stdbool.h>
+#include <stdio.h>
+#include <stdlib.h>
+#include <string.h>
+
+#include "../examples/job_a.h"
+#include "mirokefa.h"
+
+enum {
+    PATH_BYTES = MIROKEFA_PATH_BYTES(MIROKEFA_MOST_INPUTS),
+    BLOCK_BYTES = MIROKEFA_BLOCK_BYTES,
+    MOST_ROWS = MIROKEFA_MOST_ROWS,
+    MOST_PATHS = 4,
+    MARGIN = 8,
+    FILL = 0xA5
+};
+
+/* All that calls lend, each part behind a margin; there is room for lists that are too long. */
+struct room {
+    uint8_t report[MARGIN + MOST_PATHS * PATH_BYTES + MARGIN];
+    uint64_t rows[MARGIN + 2 * MOST_ROWS + MARGIN];
+    uint64_t answers[MARGIN + MOST_ROWS + MARGIN];
+};
+
+/* What a call lends; a field is changed to lend it wrongly. */
+struct call {
+    uint64_t inputs;
+    const uint8_t *report;
+    size_t report_bytes;
+    const uint64_t *rows;
+    size_t row_words;
+    uint64_t *answers;
+    size_t answer_words;
+};
+
+static struct room lent;
+static struct room expected;
+static uint64_t memory[MIROKEFA_MEMORY_WORDS];
+static uint64_t table[MIROKEFA_USUAL_TABLE_WORDS];
+
+static const uint64_t TWO_INPUTS[4] = {0, 255, 3, 7};
+static const uint64_t NO_PATH = MIROKEFA_NO_PATH;
+
+static void require(bool holds, const char *what)
+{
+    if (!holds) {
+        fprintf(stderr, "placing: %s\n", what);
+        exit(1);
+    }
+}
+
+/* Writes the paths of Job A's code on a box to a place of the report; its code reads the first input alone. */
+static void explore(const uint64_t *box, size_t inputs, uint64_t limit, size_t place, uint64_t paths)
+{
+    struct mirokefa_outcome outcome = mirokefa_explore(
+        JOB_A, JOB_A_WORDS, memory, MIROKEFA_MEMORY_WORDS, box, 2 * inputs, limit,
+        table, MIROKEFA_USUAL_TABLE_WORDS, lent.report + MARGIN + place * PATH_BYTES, paths * PATH_BYTES, 0);
+    require(outcome.refused == MIROKEFA_ACCEPTED && outcome.count == paths && outcome.more == 0, "Job A has other paths");
+}
+
+static void move_path(size_t to, size_t from)
+{
+    memcpy(lent.report + MARGIN + to * PATH_BYTES, lent.report + MARGIN + from * PATH_BYTES, PATH_BYTES);
+}
+
+/* A call on the first paths of the report, with rows and an answer for each. */
+static struct call call_of(uint64_t inputs, size_t paths, const uint64_t *values, size_t rows)
+{
+    struct call call = {
+        .inputs = inputs,
+        .report = lent.report + MARGIN, .report_bytes = paths * PATH_BYTES,
+        .rows = lent.rows + MARGIN, .row_words = rows * inputs,
+        .answers = lent.answers + MARGIN, .answer_words = rows,
+    };
+    memcpy(lent.rows + MARGIN, values, rows * inputs * sizeof *values);
+    return call;
+}
+
+/* Makes the call; beside the answers expected, nothing is changed. */
+static void makes(const struct call *c, uint64_t number, const uint64_t *answers, const char *what)
+{
+    memset(lent.answers, FILL, sizeof lent.answers);
+    memcpy(&expected, &lent, sizeof lent);
+    if (answers)
+        memcpy(expected.answers + MARGIN, answers, c->answer_words * sizeof *answers);
+    uint64_t found = mirokefa_place(c->inputs, c->report, c->report_bytes, c->rows, c->row_words, c->answers, c->answer_words);
+    require(found == number, what);
+    require(memcmp(&lent, &expected, sizeof lent) == 0, what);
+}
+
+static void places(const struct call *call, const uint64_t *answers, const char *what)
+{
+    makes(call, MIROKEFA_ACCEPTED, answers, what);
+}
+
+static void refuses(const struct call *call, uint64_t number, const char *what)
+{
+    makes(call, number, NULL, what);
+}
+
+/* Job A's paths are 0..9 and 10..255. */
+static void rows_of_job_a(void)
+{
+    static const uint64_t rows[6] = {0, 9, 10, 255, 256, UINT64_MAX};
+    const uint64_t answers[6] = {0, 0, 1, 1, NO_PATH, NO_PATH};
+    const uint64_t on_last_path[6] = {NO_PATH, NO_PATH, 1, 1, NO_PATH, NO_PATH};
+    explore(JOB_A_BOX, JOB_A_INPUTS, JOB_A_LIMIT, 0, 2);
+    struct call call = call_of(1, 2, rows, 6);
+    places(&call, answers, "Job A's rows have other paths");
+    call.report += PATH_BYTES, call.report_bytes = PATH_BYTES;
+    places(&call, on_last_path, "the rows have other paths on the last path alone");
+    for (size_t k = 0; k < 6; k++) {
+        call = call_of(1, 2, rows + k, 1);
+        places(&call, answers + k, "a row alone has another path");
+    }
+}
+
+static void rows_of_two_inputs(void)
+{
+    static const uint64_t rows[14] = {0, 3, 9, 7, 10, 3, 255, 7, 9, 2, 10, 8, 256, 5};
+    const uint64_t answers[7] = {0, 0, 1, 1, NO_PATH, NO_PATH, NO_PATH};
+    explore(TWO_INPUTS, 2, JOB_A_LIMIT, 0, 2);
+    struct call call = call_of(2, 2, rows, 7);
+    places(&call, answers, "rows of two inputs have other paths");
+}
+
+/* With limit 5 the code has one path, numbered 0, on the whole box. */
+static void first_listed_wins(void)
+{
+    static const uint64_t rows[3] = {3, 20, 256};
+    const uint64_t narrow_first[3] = {0, 1, NO_PATH};
+    const uint64_t wide_first[3] = {0, 0, NO_PATH};
+    explore(JOB_A_BOX, JOB_A_INPUTS, JOB_A_LIMIT, 1, 2);
+    explore(JOB_A_BOX, JOB_A_INPUTS, 5, 3, 1);
+    move_path(0, 2);
+    move_path(1, 3);
+    struct call call = call_of(1, 2, rows, 3);
+    places(&call, narrow_first, "the first listed path does not win");
+    move_path(0, 3);
+    move_path(1, 2);
+    places(&call, wide_first, "the first listed path does not win over a higher number");
+}
+
+static void every_flipped_bit(void)
+{
+    static const uint64_t rows[2] = {3, 20};
+    explore(JOB_A_BOX, JOB_A_INPUTS, JOB_A_LIMIT, 0, 2);
+    struct call call = call_of(1, 2, rows, 2);
+    for (size_t bit = 0; bit < 8 * 2 * PATH_BYTES; bit++) {
+        lent.report[MARGIN + bit / 8] ^= (uint8_t)(1u << bit % 8);
+        refuses(&call, MIROKEFA_REFUSED_RECORDS, "a flipped bit is not refused with 12");
+        lent.report[MARGIN + bit / 8] ^= (uint8_t)(1u << bit % 8);
+    }
+}
+
+/* The noes of a call of two inputs on two paths; those of the report come first. */
+enum { COUNT, LENGTH, OTHER_COUNT, FIRST_CHECK, LAST_CHECK, PART_OF_ROW, MANY_ROWS, ANSWERS, NOES, FIRST_ON_ROWS = PART_OF_ROW };
+
+static struct call call_with(unsigned noes)
+{
+    static const uint64_t rows[4] = {3, 5, 20, 5};
+    explore(TWO_INPUTS, 2, JOB_A_LIMIT, 0, 2);
+    /* the last path gets another count, and its right check */
+    if (noes >> OTHER_COUNT & 1)
+        explore(JOB_A_BOX, JOB_A_INPUTS, 5, 1, 1);
+    if (noes >> FIRST_CHECK & 1)
+        lent.report[MARGIN + BLOCK_BYTES - 1] ^= 1;
+    if (noes >> LAST_CHECK & 1)
+        lent.report[MARGIN + 2 * PATH_BYTES - 1] ^= 1;
+    struct call call = call_of(2, 2, rows, 2);
+    if (noes >> COUNT & 1)
+        call.inputs = MIROKEFA_MOST_INPUTS + 1;
+    if (noes >> LENGTH & 1)
+        call.report_bytes--;
+    if (noes >> MANY_ROWS & 1)
+        call.answer_words = MOST_ROWS + 1, call.row_words = 2 * (MOST_ROWS + 1);
+    if (noes >> PART_OF_ROW & 1)
+        call.row_words--;
+    if (noes >> ANSWERS & 1)
+        call.answer_words--;
+    return call;
+}
+
+static void every_set_of_noes(void)
+{
+    for (unsigned noes = 1; noes < 1u << NOES; noes++) {
+        struct call call = call_with(noes);
+        bool report_is_right = noes % (1u << FIRST_ON_ROWS) == 0;
+        refuses(&call, report_is_right ? MIROKEFA_REFUSED_ROWS : MIROKEFA_REFUSED_RECORDS, "the first no does not decide");
+    }
+}
+
+static void refuse_counts(void)
+{
+    static const uint64_t counts[6] = {0, MIROKEFA_MOST_INPUTS + 1, (UINT64_C(1) << 32) + 1, UINT64_C(1) << 63, UINT64_MAX, 2};
+    static const uint64_t rows[2] = {3, 20};
+    explore(JOB_A_BOX, JOB_A_INPUTS, JOB_A_LIMIT, 0, 2);
+    struct call call = call_of(1, 2, rows, 2);
+    for (size_t k = 0; k < 6; k++) {
+        call.inputs = counts[k];
+        refuses(&call, MIROKEFA_REFUSED_RECORDS, "a wrong input count is not refused with 12");
+    }
+    call.report_bytes = 0, call.inputs = 0;
+    refuses(&call, MIROKEFA_REFUSED_RECORDS, "no inputs are not refused with 12 where no path is lent");
+}
+
+/* Every length of the report, and rows and answers of other lengths. */
+static void refuse_lengths(void)
+{
+    static const uint64_t rows[2] = {3, 20};
+    explore(JOB_A_BOX, JOB_A_INPUTS, JOB_A_LIMIT, 0, 2);
+    struct call call = call_of(1, 2, rows, 2);
+    for (size_t length = 0; length < 2 * PATH_BYTES; length++) {
+        call.report_bytes = length;
+        if (length % PATH_BYTES != 0)
+            refuses(&call, MIROKEFA_REFUSED_RECORDS, "a part of a path is not refused with 12");
+    }
+    call = call_of(1, 2, rows, 2);
+    for (size_t words = 0; words < 6; words++) {
+        call.answer_words = words;
+        if (words != 2)
+            refuses(&call, MIROKEFA_REFUSED_ROWS, "too few or too many answers are not refused with 13");
+    }
+}
+
+/* The header's bounds are allowed themselves. */
+static void bounds_are_accepted(void)
+{
+    static uint64_t rows[MOST_ROWS + 1];
+    static uint64_t answers[MOST_ROWS];
+    static const uint64_t eight[2 * MIROKEFA_MOST_INPUTS] = {0, 9};
+    explore(JOB_A_BOX, JOB_A_INPUTS, JOB_A_LIMIT, 0, 2);
+    struct call call = call_of(1, 2, rows, MOST_ROWS + 1);
+    refuses(&call, MIROKEFA_REFUSED_ROWS, "1,025 rows are not refused with 13");
+    call = call_of(1, 2, rows, MOST_ROWS);
+    places(&call, answers, "1,024 rows are not accepted");
+    explore(eight, MIROKEFA_MOST_INPUTS, JOB_A_LIMIT, 0, 1);
+    call = call_of(MIROKEFA_MOST_INPUTS, 1, rows, 2);
+    places(&call, answers, "eight inputs are not accepted");
+}
+
+/* With 0 elements a pointer may be null. */
+static void nothing_lent(void)
+{
+    static const uint64_t rows[2] = {3, 20};
+    const uint64_t answers[2] = {NO_PATH, NO_PATH};
+    explore(JOB_A_BOX, JOB_A_INPUTS, JOB_A_LIMIT, 0, 2);
+    struct call call = {.inputs = 1};
+    places(&call, NULL, "no path, no row and no answer are not accepted");
+    call.inputs = 0;
+    refuses(&call, MIROKEFA_REFUSED_RECORDS, "nothing at all is not refused with 12");
+    call = call_of(1, 2, rows, 2);
+    call.report = NULL, call.report_bytes = 0;
+    places(&call, answers, "rows have a path where there is none");
+    call.rows = NULL, call.row_words = 0;
+    refuses(&call, MIROKEFA_REFUSED_ROWS, "answers without rows are not refused with 13");
+    call = call_of(1, 2, rows, 2);
+    call.answers = NULL, call.answer_words = 0;
+    refuses(&call, MIROKEFA_REFUSED_ROWS, "rows without answers are not refused with 13");
+    call.rows = NULL, call.row_words = 0;
+    places(&call, NULL, "a report without rows is not accepted");
+}
+
+int main(void)
+{
+    memset(&lent, FILL, sizeof lent);
+    rows_of_job_a();
+    rows_of_two_inputs();
+    first_listed_wins();
+    every_flipped_bit();
+    every_set_of_noes();
+    refuse_counts();
+    refuse_lengths();
+    bounds_are_accepted();
+    nothing_lent();
+    return 0;
+}
