@@ -16,7 +16,7 @@ use Rattle.calls.proofs.Numbers.{reply-numbers}
 use Rattle.demands.proofs.Refuses.{refused, accepted}
 use Rattle.jobs.specs.Job.{jobNumber}
 use Rattle.jobs.specs.declared.JobRefusal.{JobRefusal}
-use Rattle.reports.specs.Placing.{PlaceCall, placed, answerNumber, asks as placeAsks, questions as placeQuestions, number as placeNumber}
+use Rattle.reports.specs.Placing.{PlaceCall, placeAsks, placeQuestions, placeNumber, placed, answerNumber}
 use Rattle.reports.specs.declared.PlaceRefusal.{PlaceRefusal}
 use Rattle.reports.proofs.Promises.{places, placed-numbers}
 use Rattle.serving.specs.Served.{served, outcomeOf}

@@ -9,7 +9,7 @@ use Rattle.blocks.specs.Block.{bytesOf, numberOf, checkFrom, block, each, check
 use Rattle.blocks.specs.Record.{padded}
 use Rattle.calls.specs.Call.{firstNo}
 use Rattle.reports.specs.Readable.{readable}
-use Rattle.reports.specs.Placing.{holds, placing, noPath, lends, asks, placedBy, placed, answerNumber}
+use Rattle.reports.specs.Placing.{holds, placing, noPath, placeCallOf, placeAsks, placedBy, placed, answerNumber}
 
 -- a record with this path number, input count, lows and highs
 abbrev recordWith : ℕ → ℕ → List ℕ → List ℕ → List ℕ
@@ -18,7 +18,7 @@ recordWith number count lows highs = block (number ∷ 1 ∷ 0 ∷ 0 ∷ count �
 -- the answer's number, and what the list for the answers, which came with 5 in each place, then holds
 unfoldable answer : ℕ → List ℕ → List ℕ → ℕ → List ℕ
 answer n report rows answers =
-    let l = placed (lends n report rows (replicate answers 5)) in
+    let l = placed (placeCallOf n report rows (replicate answers 5)) in
     answerNumber (l .answer) ∷ l .answers
 
 -- 0..9 under number 7, and 5..20 under number 3
@@ -30,8 +30,8 @@ abbrev twoInputs : List ℕ
 twoInputs =
     recordWith 4 2 (0 ∷ 6 ∷ []) (9 ∷ 5 ∷ []) ++ recordWith 0 2 (0 ∷ 5 ∷ []) (9 ∷ 5 ∷ []) ++ recordWith 1 2 (0 ∷ 6 ∷ []) (9 ∷ noPath ∷ [])
 
-unfoldable placings : List (List ℕ)
-placings =
+unfoldable accepted : List (List ℕ)
+accepted =
     answer 1 overlapping (0 ∷ 5 ∷ 9 ∷ 10 ∷ 20 ∷ 21 ∷ []) 6
     ∷ answer 1 (drop 1024 overlapping) (9 ∷ 4 ∷ []) 2
     ∷ answer 2 twoInputs (9 ∷ 5 ∷ 9 ∷ 6 ∷ 10 ∷ 5 ∷ 0 ∷ 4 ∷ 3 ∷ noPath ∷ []) 5
@@ -40,12 +40,12 @@ placings =
     ∷ answer 1 overlapping [] 0
     ∷ []
 
-rows-placed : placings ≡ (0 ∷ 7 ∷ 7 ∷ 7 ∷ 3 ∷ 3 ∷ noPath ∷ []) ∷ (0 ∷ 3 ∷ noPath ∷ []) ∷ (0 ∷ 0 ∷ 1 ∷ noPath ∷ noPath ∷ 1 ∷ []) ∷ (0 ∷ noPath ∷ []) ∷ (0 ∷ []) ∷ []
-unfolding placings answer placed placedBy asks firstNo readable placing holds every each checksAgree checkFrom numberOf bytesOf block from flatMap
+rows-placed : accepted ≡ (0 ∷ 7 ∷ 7 ∷ 7 ∷ 3 ∷ 3 ∷ noPath ∷ []) ∷ (0 ∷ 3 ∷ noPath ∷ []) ∷ (0 ∷ 0 ∷ 1 ∷ noPath ∷ noPath ∷ 1 ∷ []) ∷ (0 ∷ noPath ∷ []) ∷ (0 ∷ []) ∷ []
+unfolding accepted answer placed placedBy placeAsks firstNo readable placing holds every each checksAgree checkFrom numberOf bytesOf block from flatMap
 rows-placed = refl
 
-unfoldable refusals : List (List ℕ)
-refusals =
+unfoldable refused : List (List ℕ)
+refused =
     -- 12: input counts, a byte too few, a record of another count, a changed byte in either block of the last record
     answer 0 [] [] 0
     ∷ answer 9 [] [] 0
@@ -63,6 +63,6 @@ refusals =
     ∷ answer 1 (set overlapping 300 1) (0 ∷ 1 ∷ []) 1
     ∷ []
 
-rows-refused : refusals ≡ (12 ∷ []) ∷ (12 ∷ []) ∷ (12 ∷ 5 ∷ []) ∷ (12 ∷ 5 ∷ []) ∷ (12 ∷ 5 ∷ []) ∷ (12 ∷ 5 ∷ []) ∷ (12 ∷ 5 ∷ []) ∷ (13 ∷ 5 ∷ []) ∷ (13 ∷ []) ∷ (13 ∷ 5 ∷ []) ∷ (13 ∷ 5 ∷ []) ∷ (12 ∷ 5 ∷ []) ∷ []
-unfolding refusals answer placed placedBy asks firstNo readable placing holds every each checksAgree checkFrom numberOf bytesOf block from flatMap
+rows-refused : refused ≡ (12 ∷ []) ∷ (12 ∷ []) ∷ (12 ∷ 5 ∷ []) ∷ (12 ∷ 5 ∷ []) ∷ (12 ∷ 5 ∷ []) ∷ (12 ∷ 5 ∷ []) ∷ (12 ∷ 5 ∷ []) ∷ (13 ∷ 5 ∷ []) ∷ (13 ∷ []) ∷ (13 ∷ 5 ∷ []) ∷ (13 ∷ 5 ∷ []) ∷ (12 ∷ 5 ∷ []) ∷ []
+unfolding refused answer placed placedBy placeAsks firstNo readable placing holds every each checksAgree checkFrom numberOf bytesOf block from flatMap
 rows-refused = refl

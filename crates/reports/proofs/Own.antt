@@ -18,7 +18,7 @@ use Rattle.boxes.proofs.Places.{place-mem, place-exists, place-below}
 use Rattle.listing.specs.Group.{Job}
 use Rattle.listing.specs.Listing.{Path, listing}
 use Rattle.corners.specs.Good.{Sound}
-use Rattle.blocks.specs.Block.{wordAt, each}
+use Rattle.blocks.specs.Block.{wordAt}
 use Rattle.blocks.specs.Layout as place
 use Rattle.blocks.specs.Reading.{Tells}
 use Rattle.blocks.specs.Record.{mostInputs, recordBytes, records}
@@ -36,7 +36,7 @@ use Rattle.demands.proofs.Demands.{accepted-refusal, demand-2, demand-3, leaves
 use Rattle.demands.proofs.Faithful.{listing-faithful}
 use Rattle.demands.proofs.Words.{path-fits}
 use Rattle.reports.specs.Readable.{recordsOf, hasCount, readable}
-use Rattle.reports.specs.Placing.{rowsIn, rowAt, between, holds, noPath, placing, PlaceCall, lends, rowsFit, asks, placed}
+use Rattle.reports.specs.Placing.{rowsIn, rowAt, between, holds, noPath, placing, PlaceCall, placeCallOf, rowsFit, placeAsks, placed}
 use Rattle.reports.specs.Placed.{FirstHolds, OwnReport, OnPath, OwnAnswers}
 use Rattle.reports.specs.declared.PlaceRefusal.{PlaceRefusal}
 use Rattle.reports.specs.declared.PlaceRefusal.the-variants.{Records, Rows}
@@ -45,9 +45,15 @@ use Rattle.reports.proofs.Records.{countAt, counts-each, row-inside}
 use Rattle.reports.proofs.Listed.{placing-first, placing-none}
 use Rattle.reports.proofs.Promises.{places, row-answer}
 
--- of a sound job with 1 to 8 inputs whose whole listing is a report
-module _ (j : Job) (sound : Sound j (j .box)) (limit : j .limit < 2 ^ 64) (some-input : 1 ≤ length (j .box)) (few : length (j .box) ≤ mostInputs)
-    (size : length (records 0 (listing j)) < 2 ^ 64) where
+-- a sound job with 1 to 8 inputs whose whole listing is a report
+record Reportable (j : Job) : Type 0 where
+  sound : Sound j (j .box)
+  limit : j .limit < 2 ^ 64
+  some-input : 1 ≤ length (j .box)
+  few : length (j .box) ≤ mostInputs
+  size : length (records 0 (listing j)) < 2 ^ 64
+
+module _ (j : Job) (able : Reportable j) where
   abbrev n : ℕ
   n = length (j .box)
 
@@ -55,7 +61,7 @@ module _ (j : Job) (sound : Sound j (j .box)) (limit : j .limit < 2 ^ 64) (some-
   report = records 0 (listing j)
 
   fits : (p : Path) → p ∈ listing j → (length (p .box) ≤ mostInputs) × (length (p .registers) ≡ 32)
-  fits p m = (omega (arith, path-inputs j sound p m), path-registers j sound p m)
+  fits p m = (omega (arith, able .few, path-inputs j (able .sound) p m), path-registers j (able .sound) p m)
 
   report-length : length report ≡ recordBytes n * length (listing j)
   report-length = records-length n 0 (listing j) fits
@@ -67,7 +73,7 @@ module _ (j : Job) (sound : Sound j (j .box)) (limit : j .limit < 2 ^ 64) (some-
   path-at i l = place-exists (listing j) i (omega (arith, report-records))
 
   words : (p : Path) → p ∈ listing j → (i : ℕ) → i < length (listing j) → Fits i p
-  words p m i l = path-fits j sound limit p m few i (omega (arith, report-length))
+  words p m i l = path-fits j (able .sound) (able .limit) p m (able .few) i (omega (arith, report-length, able .size))
 
   module _ (i : ℕ) (p : Path) (e : IsPath j i p) where
     in-listing : p ∈ listing j
@@ -79,7 +85,7 @@ module _ (j : Job) (sound : Sound j (j .box)) (limit : j .limit < 2 ^ 64) (some-
         (record-tells i p (words p in-listing i (place-below (listing j) i e)))
 
     inputs-are : length (p .box) ≡ n
-    inputs-are = path-inputs j sound p in-listing
+    inputs-are = path-inputs j (able .sound) p in-listing
 
     -- its record holds the choices of its box
     holds-inside : (row : Choice) → length row ≡ n → holds n row (recordAt n report i) ≡ true → Inside row (p .box)
@@ -87,7 +93,7 @@ module _ (j : Job) (sound : Sound j (j .box)) (limit : j .limit < 2 ^ 64) (some-
     holds-inside row l h =
         at-inside (p .box) row (omega (arith, inputs-are))
         (λ k m.
-        let z : k < mostInputs = omega (arith, inputs-are) in
+        let z : k < mostInputs = omega (arith, able .few, inputs-are) in
         let b = each-at (between (recordAt n report i) row) n 0 h k (omega arith) (omega (arith, inputs-are)) in
         let bytes = recordAt n report i in
         let (low, high) = and-eq-true-iff (leb (wordAt bytes (place.lows + k)) (at row k)) (leb (at row k) (wordAt bytes (place.highs + k))) .0 b in
@@ -98,7 +104,7 @@ module _ (j : Job) (sound : Sound j (j .box)) (limit : j .limit < 2 ^ 64) (some-
     inside-holds row h =
         each-all (between (recordAt n report i) row) n 0
         (λ k l m.
-        let z : k < mostInputs = omega arith in
+        let z : k < mostInputs = omega (arith, able .few) in
         let (low, high) = inside-at (p .box) row h k in
         rw (tells .low k z, tells .high k z, le-leb _ _ low, le-leb _ _ high))
 
@@ -109,26 +115,26 @@ module _ (j : Job) (sound : Sound j (j .box)) (limit : j .limit < 2 ^ 64) (some-
       ∙ each-all (countAt n report) (recordsIn n report) 0
       (λ i l m. let (p, e) = path-at i (omega arith) in eq-eqb _ _ (tells i p e .inputs ∙ inputs-are i p e))
 
-  pub own-readable : readable n report ≡ true
+  own-readable : readable n report ≡ true
   unfolding readable
   own-readable =
       rw (
-        le-leb _ _ some-input,
-        le-leb _ _ few,
+        le-leb _ _ (able .some-input),
+        le-leb _ _ (able .few),
         eq-eqb (length report % recordBytes n) 0 (omega (arith, report-length)),
         counts-right,
         checks-records 0 (listing j) (λ p m i l. words p m i (omega arith)),
       )
 
   complete : Complete j
-  complete = listing-complete j sound
+  complete = listing-complete j (able .sound)
 
   module _ (row : Choice) where
     abbrev x : ℕ
     x = placing n (recordsOf n report) row
 
     -- the path that holds a choice of the starting box has the first record that does
-    pub own-path : Inside row (j .box) → OnPath j row x
+    own-path : Inside row (j .box) → OnPath j row x
     own-path h =
         let (m, p, e, i) = complete .some-path row h in
         let l = inside-length (j .box) row h in
@@ -148,17 +154,17 @@ module _ (j : Job) (sound : Sound j (j .box)) (limit : j .limit < 2 ^ 64) (some-
           listed = rw z e;
           inside = i;
           only = λ k q f g. complete .one-path row k m q p f e g i ∙ sym z;
-          below = omega (arith, z, place-below (listing j) m e, report-length);
-          faithful = listing-faithful j sound p (in-listing m p e);
+          below = omega (arith, z, place-below (listing j) m e, report-length, able .size);
+          faithful = listing-faithful j (able .sound) p (in-listing m p e);
         }
 
-    pub own-outside : length row ≡ n → (Inside row (j .box) → ⊥) → x ≡ noPath
+    own-outside : length row ≡ n → (Inside row (j .box) → ⊥) → x ≡ noPath
     own-outside l h =
         placing-none n report row
         (λ k b.
         let (p, e) = path-at k b in
         by-test (holds n row (recordAt n report k))
-        (λ y. absurd (h (listing-faithful j sound p (in-listing k p e) .inputs row (holds-inside k p e row l y))))
+        (λ y. absurd (h (listing-faithful j (able .sound) p (in-listing k p e) .inputs row (holds-inside k p e row l y))))
         (λ held-not. held-not))
 
 -- of what an engine that meets the contract of a call wrote
@@ -185,49 +191,41 @@ module _ (E : Engine) (meets : Meets E) {memory table : List ℕ} (x : Exchange)
   passes : refusalOf memory (length table) (x .call) ≡ none
   passes = accepted-refusal memory table (x .call) (rw (meets memory table (x .call) (x .left) lent made-by) at (own .accepted))
 
-  sound : Sound j (j .box)
-  sound = accepted-sound memory (length table) (x .call) passes (lent .memory-words) (lent .typed .intervals)
-
-  limit : j .limit < 2 ^ 64
-  unfolding jobOf
-  limit = lent .typed .limit
-
   counted : length (j .box) ≡ inputsOf (x .call)
   counted = inputs-counted memory (length table) (x .call) passes
 
-  few : length (j .box) ≤ mostInputs
-  few = job-inputs memory (length table) (x .call) passes
-
-  some-input : 1 ≤ length (j .box)
-  some-input = omega (arith, counted, own .inputs)
-
-  size : length (records 0 (listing j)) < 2 ^ 64
-  size =
+  able : Reportable j
+  able =
       let used = recordBytes (inputsOf (x .call)) * written (x .left .reply .answer) in
-      rw (sym page-is, length-take used (x .left .reply .report))
-      (omega (arith, demand-2 E meets lent made-by (own .accepted) .size, lent .typed .bytes))
+      record {
+        sound = accepted-sound memory (length table) (x .call) passes (lent .memory-words) (lent .typed .intervals);
+        limit = unfold jobOf in lent .typed .limit;
+        some-input = omega (arith, counted, own .inputs);
+        few = job-inputs memory (length table) (x .call) passes;
+        size = rw (sym page-is, length-take used (x .left .reply .report)) (omega (arith, demand-2 E meets lent made-by (own .accepted) .size, lent .typed .bytes));
+      }
 
   pub own-placed : (rows answers : List ℕ) → rowsFit (inputsOf (x .call)) rows answers ≡ true
-      → OwnAnswers j (inputsOf (x .call)) rows (placed (lends (inputsOf (x .call)) (bytesWritten x) rows answers))
+      → OwnAnswers j (inputsOf (x .call)) rows (placed (placeCallOf (inputsOf (x .call)) (bytesWritten x) rows answers))
   own-placed rows answers fit =
       record {
         answered = a;
-        from-box = λ k l h. rw (row-answer c a k l, same (row k)) (own-path j sound limit some-input few size (row k) h);
-        outside = λ k l h. row-answer c a k l ∙ same (row k) ∙ own-outside j sound limit some-input few size (row k) (row-length k l ∙ sym counted) h;
+        from-box = λ k l h. rw (row-answer c a k l, same (row k)) (own-path j able (row k) h);
+        outside = λ k l h. row-answer c a k l ∙ same (row k) ∙ own-outside j able (row k) (row-length k l ∙ sym counted) h;
       }
     where
       n : ℕ
       n = inputsOf (x .call)
 
       c : PlaceCall
-      c = lends n (bytesWritten x) rows answers
+      c = placeCallOf n (bytesWritten x) rows answers
 
       row : ℕ → List ℕ
       row k = rowAt n rows k
 
-      asked : (q : PlaceRefusal) → asks c q ≡ true
-      asked Records = unfold asks in rw (page-is, sym counted) (own-readable j sound limit some-input few size)
-      asked Rows = unfold asks in fit
+      asked : (q : PlaceRefusal) → placeAsks c q ≡ true
+      asked Records = unfold placeAsks in rw (page-is, sym counted) (own-readable j able)
+      asked Rows = unfold placeAsks in fit
 
       a : placed c .answer ≡ Answered
       a = places c .accepted .1 asked
@@ -241,5 +239,5 @@ module _ (E : Engine) (meets : Meets E) {memory table : List ℕ} (x : Exchange)
 -- of `explore`, whose contract names the relation `Leaves`
 pub explore-placed : {memory table : List ℕ} (x : Exchange) → Lent memory table (x .call) → Leaves memory table (x .call) (x .left) → OwnReport x
     → (rows answers : List ℕ) → rowsFit (inputsOf (x .call)) rows answers ≡ true
-    → OwnAnswers (jobOf memory (length table) (x .call)) (inputsOf (x .call)) rows (placed (lends (inputsOf (x .call)) (bytesWritten x) rows answers))
+    → OwnAnswers (jobOf memory (length table) (x .call)) (inputsOf (x .call)) rows (placed (placeCallOf (inputsOf (x .call)) (bytesWritten x) rows answers))
 explore-placed = own-placed Leaves leaves-meets

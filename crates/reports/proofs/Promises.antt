@@ -16,14 +16,14 @@ use Rattle.calls.specs.Call.{firstNo}
 use Rattle.calls.proofs.Asked.{all-yes, first-no}
 use Rattle.blocks.specs.Record.{mostInputs}
 use Rattle.reports.specs.Readable.{recordsOf, readable}
-use Rattle.reports.specs.Placing.{rowsIn, rowAt, rowsOf, placing, mostRows, PlaceCall, placedLeft, asks, questions, number, placedBy, placed}
+use Rattle.reports.specs.Placing.{rowsIn, rowAt, placing, placings, mostRows, PlaceCall, placedLeft, placeAsks, placeQuestions, placeNumber, placedBy, placed}
 use Rattle.reports.specs.Placed.{Places, PlacedInNumbers}
 use Rattle.reports.specs.declared.PlaceRefusal.{PlaceRefusal}
 use Rattle.reports.specs.declared.PlaceRefusal.the-variants.{Records, Rows}
 use Rattle.reports.specs.declared.Placed.{Placed}
 use Rattle.reports.specs.declared.Placed.the-variants.{Refused, Answered}
 use Rattle.reports.proofs.Listed.{row-placed}
-use Rattle.reports.proofs.Records.{placingAt, answers-are}
+use Rattle.reports.proofs.Records.{placingAt, placings-are}
 
 -- a readable report has an input
 pub readable-inputs : (n : ℕ) (report : List ℕ) → readable n report ≡ true → (1 ≤ n) × (n ≤ mostInputs)
@@ -32,13 +32,13 @@ readable-inputs n report e =
     let (a, b) = and-eq-true-iff (leb 1 n) (leb n mostInputs) .0 (and-eq-true-iff (leb 1 n && leb n mostInputs) _ .0 e .0) in
     (leb-true 1 n a, leb-true n mostInputs b)
 
-pub among-questions : (r : PlaceRefusal) → r ∈ questions
+pub among-questions : (r : PlaceRefusal) → r ∈ placeQuestions
 among-questions Records = here refl
 among-questions Rows = there (here refl)
 
 module _ (c : PlaceCall) where
-  abbrev answers : List ℕ
-  answers = map (placing (c .inputs) (recordsOf (c .inputs) (c .report))) (rowsOf (c .inputs) (c .rows))
+  abbrev count : ℕ
+  count = rowsIn (c .inputs) (c .rows)
 
   abbrev answerAt : ℕ → ℕ
   answerAt = placingAt (c .inputs) (c .report) (c .rows)
@@ -54,52 +54,51 @@ module _ (c : PlaceCall) where
   refused-asks r (some s) e = let z : s ≡ r = cc in ap (λ (q : PlaceRefusal). some q) z
 
   -- what is left, by what the questions come to
-  pub placed-refused : (r : PlaceRefusal) → firstNo (asks c) questions ≡ some r → (placed c .answer ≡ Refused r) × (placed c .answers ≡ c .answers)
+  pub placed-refused : (r : PlaceRefusal) → firstNo (placeAsks c) placeQuestions ≡ some r → (placed c .answer ≡ Refused r) × (placed c .answers ≡ c .answers)
   unfolding placed placedBy
   placed-refused r e = rw e (refl, refl)
 
-  pub placed-answered : firstNo (asks c) questions ≡ none → (placed c .answer ≡ Answered) × (placed c .answers ≡ answers)
+  pub placed-answered : firstNo (placeAsks c) placeQuestions ≡ none → (placed c .answer ≡ Answered) × (placed c .answers ≡ placings (c .inputs) (c .report) (c .rows))
   unfolding placed placedBy
   placed-answered e = rw e (refl, refl)
 
-  pub refused-by : (r : PlaceRefusal) → placed c .answer ≡ Refused r → firstNo (asks c) questions ≡ some r
+  pub refused-by : (r : PlaceRefusal) → placed c .answer ≡ Refused r → firstNo (placeAsks c) placeQuestions ≡ some r
   unfolding placed
-  refused-by r e = refused-asks r (firstNo (asks c) questions) e
+  refused-by r e = refused-asks r (firstNo (placeAsks c) placeQuestions) e
 
-  pub answered-by : placed c .answer ≡ Answered → firstNo (asks c) questions ≡ none
+  pub answered-by : placed c .answer ≡ Answered → firstNo (placeAsks c) placeQuestions ≡ none
   unfolding placed
-  answered-by e = answered-asks (firstNo (asks c) questions) e
+  answered-by e = answered-asks (firstNo (placeAsks c) placeQuestions) e
 
   -- what an accepted call leaves to its writing
-  pub answered-fits : placed c .answer ≡ Answered → (c .inputs ≤ mostInputs) × (length (c .answers) ≡ rowsIn (c .inputs) (c .rows))
-  unfolding asks
+  pub answered-fits : placed c .answer ≡ Answered → (c .inputs ≤ mostInputs) × (length (c .answers) ≡ count)
+  unfolding placeAsks
   answered-fits e =
-      let yes = all-yes (asks c) questions .0 (answered-by e) in
-      let n = rowsIn (c .inputs) (c .rows) in
-      let counted = and-eq-true-iff (eqb (length (c .rows) % c .inputs) 0) _ .0 (yes Rows (among-questions Rows)) .1 in
-      (readable-inputs (c .inputs) (c .report) (yes Records (among-questions Records)) .1, eqb-true (length (c .answers)) n (and-eq-true-iff (leb n mostRows) (eqb (length (c .answers)) n) .0 counted .1))
+      let yes = all-yes (placeAsks c) placeQuestions .0 (answered-by e) in
+      let fitting = and-eq-true-iff (eqb (length (c .rows) % c .inputs) 0) _ .0 (yes Rows (among-questions Rows)) .1 in
+      let as-many = and-eq-true-iff (leb count mostRows) (eqb (length (c .answers)) count) .0 fitting .1 in
+      (readable-inputs (c .inputs) (c .report) (yes Records (among-questions Records)) .1, eqb-true (length (c .answers)) count as-many)
 
   -- answer and answers are all that it leaves
   pub left-is : {a : Placed} {l : List ℕ} → a ≡ placed c .answer → l ≡ placed c .answers → placedLeft a l ≡ placed c
   left-is {a} {l} e f = ap (λ (b : Placed). placedLeft b l) e ∙ ap (λ (m : List ℕ). placedLeft (placed c .answer) m) f
 
-  pub row-answer : placed c .answer ≡ Answered → (k : ℕ) → k < rowsIn (c .inputs) (c .rows)
+  answers-are : placed c .answer ≡ Answered → placed c .answers ≡ map answerAt (from 0 count)
+  answers-are e = placed-answered (answered-by e) .1 ∙ placings-are (c .inputs) (c .report) (c .rows)
+
+  pub row-answer : placed c .answer ≡ Answered → (k : ℕ) → k < count
       → getD (placed c .answers) k 0 ≡ placing (c .inputs) (recordsOf (c .inputs) (c .report)) (rowAt (c .inputs) (c .rows) k)
-  unfolding placed
-  row-answer e k l =
-      ap (λ (ws : List ℕ). getD ws k 0) (placed-answered (answered-by e) .1 ∙ answers-are (c .inputs) (c .report) (c .rows))
-      ∙ from-at (answerAt) 0 (rowsIn (c .inputs) (c .rows)) 0 k l
-      ∙ ap (answerAt) (zero-add k)
+  row-answer e k l = ap (λ (ws : List ℕ). getD ws k 0) (answers-are e) ∙ from-at answerAt 0 count 0 k l ∙ ap answerAt (zero-add k)
 
   pub places : Places c (placed c)
   places =
-      let first = first-no (asks c) questions in
-      let all = all-yes (asks c) questions in
+      let first = first-no (placeAsks c) placeQuestions in
+      let all = all-yes (placeAsks c) placeQuestions in
       record {
         refused = λ r. (λ e. first r .0 (refused-by r e), λ f. placed-refused r (first r .1 f) .0);
         accepted = (λ e q. all .0 (answered-by e) q (among-questions q), λ h. placed-answered (all .1 (λ q m. h q)) .0);
         kept = λ r e. placed-refused r (refused-by r e) .1;
-        size = λ e. ap length (placed-answered (answered-by e) .1 ∙ answers-are (c .inputs) (c .report) (c .rows)) ∙ length-map (from 0 (rowsIn (c .inputs) (c .rows))) (answerAt) ∙ length-from (rowsIn (c .inputs) (c .rows)) 0;
+        size = λ e. ap length (answers-are e) ∙ length-map (from 0 count) answerAt ∙ length-from count 0;
         each-row = λ e k l. rw (row-answer e k l) (row-placed (c .inputs) (c .report) (rowAt (c .inputs) (c .rows) k));
       }
 
@@ -114,13 +113,13 @@ same-answer c d n r a b i k l m e =
 
 -- the answer's numbers
 
-number-injective : (q r : PlaceRefusal) → number q ≡ number r → q ≡ r
+number-injective : (q r : PlaceRefusal) → placeNumber q ≡ placeNumber r → q ≡ r
 number-injective Records Records e = refl
 number-injective Records Rows e = absurd (omega arith)
 number-injective Rows Records e = absurd (omega arith)
 number-injective Rows Rows e = refl
 
-number-positive : (r : PlaceRefusal) → 0 < number r
+number-positive : (r : PlaceRefusal) → 0 < placeNumber r
 number-positive Records = omega arith
 number-positive Rows = omega arith
 
@@ -128,7 +127,7 @@ pub placed-numbers : (a : Placed) → PlacedInNumbers a
 placed-numbers (Refused q) =
     record {
       accepted = (λ e. absurd (omega (arith, number-positive q)), λ e. let z : _≡_ {A = ℕ} 0 1 = cc in absurd (omega arith));
-      refused = λ r. (λ e. ap Refused (number-injective q r e), λ e. let z : q ≡ r = cc in ap number z);
+      refused = λ r. (λ e. ap Refused (number-injective q r e), λ e. let z : q ≡ r = cc in ap placeNumber z);
     }
 placed-numbers Answered =
     record {

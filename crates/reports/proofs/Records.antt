@@ -14,7 +14,7 @@ use Rattle.blocks.specs.Block.{wordAt, each}
 use Rattle.blocks.specs.Layout as place
 use Rattle.blocks.specs.Report.{recordsIn, recordAt}
 use Rattle.reports.specs.Readable.{recordsOf, hasCount}
-use Rattle.reports.specs.Placing.{rowsIn, rowAt, rowsOf, holds, noPath, placing}
+use Rattle.reports.specs.Placing.{rowsIn, rowAt, holds, noPath, placing, placings}
 
 -- a test of every element, by its number
 every-each : {A : Type 0} (p : A → Bool) (f : ℕ → A) (n k : ℕ) → every p (map f (from k n)) ≡ each (λ (i : ℕ). p (f i)) k n
@@ -55,10 +55,10 @@ module _ (n : ℕ) (rows : List ℕ) (k : ℕ) where
   pub row-value : (i : ℕ) → i < n → at (rowAt n rows k) i ≡ getD rows (n * k + i) 0
   row-value i h = getD-take n (drop (n * k) rows) i 0 h ∙ getD-drop (n * k) rows i 0
 
--- the answers, by the number of the row
+-- the placings, by the number of the row
 module _ (n : ℕ) (report rows : List ℕ) where
   abbrev pub placingAt : ℕ → ℕ
   placingAt k = placing n (recordsOf n report) (rowAt n rows k)
 
-  pub answers-are : map (placing n (recordsOf n report)) (rowsOf n rows) ≡ map placingAt (from 0 (rowsIn n rows))
-  answers-are = map-map (placing n (recordsOf n report)) (rowAt n rows) (from 0 (rowsIn n rows))
+  pub placings-are : placings n report rows ≡ map placingAt (from 0 (rowsIn n rows))
+  placings-are = map-map (placing n (recordsOf n report)) (rowAt n rows) (from 0 (rowsIn n rows))

@@ -17,7 +17,7 @@ use Rattle.calls.specs.Faithful.{Faithful}
 use Rattle.calls.specs.Engine.{Exchange}
 use Rattle.calls.specs.Refuses.{FirstNo}
 use Rattle.calls.specs.Together.{isAccepted}
-use Rattle.reports.specs.Placing.{rowsIn, rowAt, holds, noPath, PlaceCall, PlacedLeft, asks, questions, number, answerNumber}
+use Rattle.reports.specs.Placing.{rowsIn, rowAt, holds, noPath, PlaceCall, PlacedLeft, placeAsks, placeQuestions, placeNumber, answerNumber}
 use Rattle.reports.specs.declared.PlaceRefusal.{PlaceRefusal}
 use Rattle.reports.specs.declared.Placed.{Placed}
 use Rattle.reports.specs.declared.Placed.the-variants.{Refused, Answered}
@@ -49,9 +49,9 @@ pub record RowPlaced (n : ℕ) (report row : List ℕ) (x : ℕ) : Type 0 where
 -- what a call leaves
 pub record Places (c : PlaceCall) (l : PlacedLeft) : Type 0 where
   -- the first no decides: a call is turned away by a question exactly if that is the first no
-  pub refused : (r : PlaceRefusal) → (l .answer ≡ Refused r) ↔ FirstNo (asks c) questions r
+  pub refused : (r : PlaceRefusal) → (l .answer ≡ Refused r) ↔ FirstNo (placeAsks c) placeQuestions r
   -- and accepted exactly if both questions have the answer yes
-  pub accepted : (l .answer ≡ Answered) ↔ ((q : PlaceRefusal) → asks c q ≡ true)
+  pub accepted : (l .answer ≡ Answered) ↔ ((q : PlaceRefusal) → placeAsks c q ≡ true)
   -- turned away, nothing is written
   pub kept : (r : PlaceRefusal) → l .answer ≡ Refused r → l .answers ≡ c .answers
   -- accepted, each row has its answer, in the order of the rows
@@ -62,7 +62,7 @@ pub record Places (c : PlaceCall) (l : PlacedLeft) : Type 0 where
 -- the number at the border says all of the answer
 pub record PlacedInNumbers (a : Placed) : Type 0 where
   pub accepted : (answerNumber a ≡ 0) ↔ (a ≡ Answered)
-  pub refused : (r : PlaceRefusal) → (answerNumber a ≡ number r) ↔ (a ≡ Refused r)
+  pub refused : (r : PlaceRefusal) → (answerNumber a ≡ placeNumber r) ↔ (a ≡ Refused r)
 
 -- a complete report of our own, for a job with inputs: an accepted call wrote it from path 0 on, and there is no further path
 pub record OwnReport (x : Exchange) : Type 0 where

@@ -36,14 +36,18 @@ between bytes row i = leb (wordAt bytes (place.lows + i)) (at row i) && leb (at 
 unfoldable pub holds : ℕ → List ℕ → List ℕ → Bool
 holds n row bytes = each (between bytes row) 0 n
 
--- MAX: the row is in no path
+-- MAX, for a row in no path
 abbrev pub noPath : ℕ
 noPath = 2 ^ 64 - 1
 
--- the path number of the first record whose box holds the row
+-- the path number of the first record whose box holds the row, or MAX
 unfoldable pub placing : ℕ → List (List ℕ) → List ℕ → ℕ
 placing n [] row = noPath
 placing n (bytes ∷ records) row = cond (holds n row bytes) (wordAt bytes place.number) (placing n records row)
+
+-- each row's placing, in the order of the rows
+abbrev pub placings : ℕ → List ℕ → List ℕ → List ℕ
+placings n report rows = map (placing n (recordsOf n report)) (rowsOf n rows)
 
 -- what a call lends: an input count, a report page without its unused bytes, rows, and a list for the answers
 pub record PlaceCall : Type 0 where
@@ -52,8 +56,8 @@ pub record PlaceCall : Type 0 where
   pub rows : List ℕ
   pub answers : List ℕ
 
-abbrev pub lends : ℕ → List ℕ → List ℕ → List ℕ → PlaceCall
-lends inputs report rows answers = record { inputs = inputs; report = report; rows = rows; answers = answers }
+abbrev pub placeCallOf : ℕ → List ℕ → List ℕ → List ℕ → PlaceCall
+placeCallOf inputs report rows answers = record { inputs = inputs; report = report; rows = rows; answers = answers }
 
 abbrev pub mostRows : ℕ
 mostRows = 1024
@@ -63,16 +67,16 @@ abbrev pub rowsFit : ℕ → List ℕ → List ℕ → Bool
 rowsFit n rows answers = eqb (length rows % n) 0 && (leb (rowsIn n rows) mostRows && eqb (length answers) (rowsIn n rows))
 
 -- the questions, each under the refusal that answers its no
-unfoldable pub asks : PlaceCall → PlaceRefusal → Bool
-asks c Records = readable (c .inputs) (c .report)
-asks c Rows = rowsFit (c .inputs) (c .rows) (c .answers)
+unfoldable pub placeAsks : PlaceCall → PlaceRefusal → Bool
+placeAsks c Records = readable (c .inputs) (c .report)
+placeAsks c Rows = rowsFit (c .inputs) (c .rows) (c .answers)
 
-abbrev pub questions : List PlaceRefusal
-questions = Records ∷ Rows ∷ []
+abbrev pub placeQuestions : List PlaceRefusal
+placeQuestions = Records ∷ Rows ∷ []
 
-abbrev pub number : PlaceRefusal → ℕ
-number Records = 12
-number Rows = 13
+abbrev pub placeNumber : PlaceRefusal → ℕ
+placeNumber Records = 12
+placeNumber Rows = 13
 
 -- what a call answers, and what it leaves in the list for the answers
 pub record PlacedLeft : Type 0 where
@@ -82,21 +86,20 @@ pub record PlacedLeft : Type 0 where
 abbrev pub placedLeft : Placed → List ℕ → PlacedLeft
 placedLeft answer answers = record { answer = answer; answers = answers }
 
--- turned away, nothing is written; otherwise each row's placing
+-- turned away, nothing is written
 unfoldable pub placedBy : PlaceCall → Option PlaceRefusal → PlacedLeft
 placedBy c (some r) = placedLeft (Refused r) (c .answers)
-placedBy c none = placedLeft Answered (map (placing (c .inputs) (recordsOf (c .inputs) (c .report))) (rowsOf (c .inputs) (c .rows)))
+placedBy c none = placedLeft Answered (placings (c .inputs) (c .report) (c .rows))
 
 -- the first no decides
 unfoldable pub placed : PlaceCall → PlacedLeft
-placed c = placedBy c (firstNo (asks c) questions)
+placed c = placedBy c (firstNo (placeAsks c) placeQuestions)
 
 -- the answer's number at the border: 0, or the refusal's
 abbrev pub answerNumber : Placed → ℕ
-answerNumber (Refused r) = number r
+answerNumber (Refused r) = placeNumber r
 answerNumber Answered = 0
 
 -- what the call leaves, of the slices themselves
-
 abbrev pub placedOn : ℕ → LentList → LentList → LentList → PlacedLeft
-placedOn inputs report rows answers = placed (lends inputs (now (report .entry)) (now (rows .entry)) (now (answers .entry)))
+placedOn inputs report rows answers = placed (placeCallOf inputs (now (report .entry)) (now (rows .entry)) (now (answers .entry)))

@@ -51,7 +51,7 @@ fn rows_fit(inputs: usize, rows: &[u64], answers: &[u64]) -> bool
 }
 
 // What the questions come to.
-pub(crate) fn ask(inputs: u64, report: &[u8], rows: &[u64], answers: &[u64]) -> Placed
+pub(crate) fn ask_place(inputs: u64, report: &[u8], rows: &[u64], answers: &[u64]) -> Placed
     ensures { λ r. ⌜ r ≡ placedOn inputs report rows answers .answer ⌝ }
 {
     if !is_readable(inputs, report) {

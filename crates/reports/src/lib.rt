@@ -2,7 +2,7 @@
 // `asking` asks the questions, `placing` finds for each row the first record whose box holds it.
 // What a reader must believe stands in specs/; a call that is turned away writes nothing.
 ghost use mathlib.Core.Path.{_≡_};
-ghost use Rattle.reports.specs.Placing.{number, answerNumber};
+ghost use Rattle.reports.specs.Placing.{placeNumber, answerNumber};
 
 pub mod asking;
 pub mod placing;
@@ -20,8 +20,8 @@ pub enum Placed {
 }
 
 // The number of a refusal.
-fn refusal_number(r: PlaceRefusal) -> u64
-    ensures { λ n. ⌜ n ≡ number r ⌝ }
+fn place_number(r: PlaceRefusal) -> u64
+    ensures { λ n. ⌜ n ≡ placeNumber r ⌝ }
 {
     match r {
         PlaceRefusal::Records => 12,
@@ -34,7 +34,7 @@ pub fn answer_number(a: Placed) -> u64
     ensures { λ n. ⌜ n ≡ answerNumber a ⌝ }
 {
     match a {
-        Placed::Refused(r) => refusal_number(r),
+        Placed::Refused(r) => place_number(r),
         Placed::Answered => 0,
     }
 }

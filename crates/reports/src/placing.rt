@@ -1,19 +1,18 @@
 // Which path of a report does each row take?
 use crate::Placed;
-use crate::asking::ask;
+use crate::asking::ask_place;
 use blocks::layout::NUMBER;
 use blocks::report::input_high;
 use blocks::report::input_low;
 use blocks::report::record_word;
 use blocks::report::records_in;
 ghost use mathlib.Core.Path.{_≡_};
-ghost use mathlib.Core.List.{map};
 ghost use Prim.Native.Nat.{_<_, _≤_};
 ghost use lib.ListN.{length};
 ghost use Rattle.blocks.specs.Record.{mostInputs};
 ghost use Rattle.blocks.specs.Report.{recordsIn, recordAt};
 ghost use Rattle.reports.specs.Readable.{recordsOf};
-ghost use Rattle.reports.specs.Placing.{rowsIn, rowAt, rowsOf, holds, placing, placedLeft, placedOn};
+ghost use Rattle.reports.specs.Placing.{rowsIn, rowAt, holds, placing, placings, placedLeft, placedOn};
 
 // MAX, for a row in no path.
 const NO_PATH: u64 = 18446744073709551615;
@@ -55,7 +54,7 @@ fn place_row(report: &[u8], inputs: usize, rows: &[u64], j: usize) -> u64
 // Writes each row's placing.
 fn place_rows(report: &[u8], inputs: usize, rows: &[u64], answers: &mut [u64])
     requires { ⌜ (inputs ≤ mostInputs) × (length (now answers) ≡ rowsIn inputs (now rows)) ⌝ }
-    ensures { λ _. ⌜ now (answers .exit) ≡ map (placing inputs (recordsOf inputs (now (report .entry)))) (rowsOf inputs (now (rows .entry))) ⌝ }
+    ensures { λ _. ⌜ now (answers .exit) ≡ placings inputs (now (report .entry)) (now (rows .entry)) ⌝ }
 {
     let mut j: usize = 0;
     while j < answers.len() {
@@ -68,7 +67,7 @@ fn place_rows(report: &[u8], inputs: usize, rows: &[u64], answers: &mut [u64])
 pub fn place(inputs: u64, report: &[u8], rows: &[u64], answers: &mut [u64]) -> Placed
     ensures { λ r. ⌜ placedLeft r (now (answers .exit)) ≡ placedOn inputs report rows answers ⌝ }
 {
-    let a = ask(inputs, report, rows, answers);
+    let a = ask_place(inputs, report, rows, answers);
     let Placed::Answered = a else {
         return a;
     };

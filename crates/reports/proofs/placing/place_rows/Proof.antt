@@ -7,7 +7,7 @@ use denote.Ref.{now}
 use lib.ListN.{length, length-set}
 use Rattle.blocks.proofs.Copied.{Copying, copy-begin, copy-turn, copy-done, copied-all}
 use Rattle.reports.specs.Placing.{rowsIn}
-use Rattle.reports.proofs.Records.{placingAt, answers-are}
+use Rattle.reports.proofs.Records.{placingAt, placings-are}
 use Rattle.reports.proofs.placing.place_rows.Statement.{statement}
 use Rattle.reports.proofs.placing.place_rows.Tie as tie
 
@@ -39,7 +39,7 @@ returns c =
     let entry = c .before .before .before .before .before in
     copy-done _ _ _ _ _ _ _ (l .inv .0) (omega (arith, entry .pre .1, l .inv .1))
     ∙ copied-all _ _ _ (sym (entry .pre .1))
-    ∙ sym (answers-are (entry .args .inputs) (now (entry .args .report)) (now (entry .args .rows)))
+    ∙ sym (placings-are (entry .args .inputs) (now (entry .args .report)) (now (entry .args .rows)))
 
 pub place-rows-spec : {M : Type 1} → statement M
 place-rows-spec =
