@@ -4,6 +4,7 @@
 //! force byte for byte; large ones with single runs of the plain machine.
 //! `explore_test [SEED COUNT]`: job k of a run has the seed SEED + k.
 
+#[allow(dead_code)] // rows are placed by place_test
 #[path = "../tool/library.rs"]
 mod library;
 mod listing_check;

@@ -438,7 +438,16 @@ fn the_examples_of_the_definitions() {
     assert_eq!(answer(1, &overlapping[RECORD..], &[9, 4], 2), [0, 3, max]);
     let rows = [9, 5, 9, 6, 10, 5, 0, 4, 3, max];
     assert_eq!(answer(2, &two_inputs, &rows, 5), [0, 0, 1, max, max, 1]);
+    let eight = [0, 1, 2, 3, 4, 5, 6, 7];
+    let report = record(6, &eight.map(|value| (value, value)));
+    assert_eq!(
+        answer(8, &report, &[&eight[..7], &[7], &eight[..7], &[8]].concat(), 2),
+        [0, 6, max]
+    );
+    let job_a = [record(0, &[(0, 9)]), record(1, &[(10, 255)])].concat();
+    assert_eq!(answer(1, &job_a, &[0, 9, 10, 255, 256], 5), [0, 0, 0, 1, 1, max]);
     assert_eq!(answer(3, &[], &[1, 2, 3], 1), [0, max]);
+    assert_eq!(answer(1, &[], &[0; 1024], 1024)[..], [&[0][..], &[max; 1024]].concat());
     assert_eq!(answer(1, &overlapping, &[], 0), [0]);
     assert_eq!(answer(0, &[], &[], 0), [12]);
     assert_eq!(answer(9, &[], &[], 0), [12]);

@@ -148,7 +148,7 @@ struct mirokefa_outcome mirokefa_serve(const uint8_t *job, size_t job_bytes, uin
 /* What mirokefa_place answers for a row that no path holds. */
 #define MIROKEFA_NO_PATH UINT64_MAX
 
-/* Which path does each row of inputs take? Answers 0, or the number of a refusal; then no answer is written. Parts are lent as for
+/* Which path does each row of inputs take? Returns 0; or the number of a refusal, and then writes no answer. Parts are lent as for
  * mirokefa_explore.
  *
  * inputs     how many inputs the report's paths have, 1 to 8; a row has a value for each.

@@ -1,7 +1,5 @@
 //! The proved library as a host lends to it: a slice passes as a pointer and its length in elements.
 
-#![allow(dead_code)] // a program that includes this file may make one of the calls alone
-
 /// `refused` is the number of the question that was answered by no, 0 for an accepted call.
 #[repr(C)]
 #[derive(Clone, Copy, Debug, PartialEq, Eq)]

@@ -27,15 +27,19 @@ pub fn place(rule: &str, rows: &str) -> Result<Output> {
 // The rule.
 
 fn read_paths(name: &str) -> Result<Paths> {
-    if name.ends_with(".report") {
-        return read_report(name);
+    match name.rsplit_once('.') {
+        Some((_, "report")) => read_report(name),
+        Some((_, "s" | "job")) => whole_listing(name, &read_job(name)?, MOST_PAGE_PATHS as usize),
+        _ => Err(fault(name, "the name of a rule ends in .s, .job or .report")),
     }
-    whole_listing(name, &read_job(name)?, MOST_PAGE_PATHS as usize)
 }
 
 /// Every path of a job, whatever first path it names; in one page, since each explores from the start.
 fn whole_listing(name: &str, job: &Job, most: usize) -> Result<Paths> {
     let inputs = job.intervals.len();
+    if inputs == 0 {
+        return Err(fault(name, "the rule has no input, so there is no row to place"));
+    }
     let (mut report, reply) = explore_page(job, most, 0)?;
     if reply.more != 0 {
         return Err(fault(name, format!("the rule has more than {most} paths; narrow its inputs")));
@@ -82,7 +86,7 @@ fn placed(paths: &Paths, records: &[Record], rows: &[Vec<u64>]) -> Result<String
     Ok(text)
 }
 
-/// A call takes so many rows and no more; a row's answer does not hang on the others.
+/// A call takes so many rows and no more; a row's answer does not depend on the others.
 fn answers(paths: &Paths, rows: &[Vec<u64>]) -> Result<Vec<u64>> {
     let mut answers = vec![NO_PATH; rows.len()];
     for (rows, answers) in rows.chunks(MOST_ROWS).zip(answers.chunks_mut(MOST_ROWS)) {
@@ -245,9 +249,12 @@ mod tests {
     }
 
     #[test]
-    fn a_rule_without_inputs_is_refused() {
+    fn a_rule_without_inputs_or_of_another_name_is_a_fault() {
         let job = assemble("li a7, 93\necall").unwrap();
-        assert!(by_job(&job, "5").starts_with("turned away 12\n"));
+        let fault = "rule: the rule has no input, so there is no row to place\n";
+        assert_eq!(by_job(&job, "5"), fault);
+        let fault = "shift.rows: the name of a rule ends in .s, .job or .report\n".to_string();
+        assert_eq!(read_paths("shift.rows"), Err(Stop::Fault(fault)));
     }
 
     #[test]

@@ -8,8 +8,8 @@ pub fn read(text: &str, inputs: usize) -> Result<Vec<Vec<u64>>, Vec<Fault>> {
     // spreadsheets put a byte order mark at the start
     let text = text.strip_prefix('\u{FEFF}').unwrap_or(text);
     let mut lines = filled_lines(text).peekable();
-    if let Some((line, header)) = lines.next_if(|&(_, text)| is_header(text)) {
-        let message = count_fault("header", "name", names(header).len(), inputs);
+    if let Some((line, header)) = lines.next_if(|&(_, text)| is_header(text, inputs)) {
+        let message = count_fault("header", "name", names(header, inputs).len(), inputs);
         faults.extend(message.map(|message| Fault { line, message }));
     }
     for (line, text) in lines {
@@ -53,14 +53,16 @@ fn counted(count: usize, what: &str) -> String {
 // ---------------------------------------------------------------------------------------------
 // The header.
 
-/// With a value among the names it is a row, so that a mistyped first row is told and not passed over.
-fn is_header(text: &str) -> bool {
-    names(text).into_iter().all(is_name)
+/// With a value among the names it is a row, so that a mistyped first row is told and not passed over;
+/// with one input alone, any digit makes it one.
+fn is_header(text: &str, inputs: usize) -> bool {
+    let is_number = |name: &str| inputs == 1 && name.contains(|letter: char| letter.is_numeric());
+    names(text, inputs).into_iter().all(|name| is_name(name) && !is_number(name))
 }
 
-/// A name may have blanks in it if commas stand between the names.
-fn names(text: &str) -> Vec<&str> {
-    if text.contains(',') {
+/// A name may have blanks in it if commas stand between the names, or if there is one alone.
+fn names(text: &str, inputs: usize) -> Vec<&str> {
+    if text.contains(',') || inputs == 1 {
         text.split(',').map(str::trim).collect()
     } else {
         text.split_whitespace().collect()
@@ -186,6 +188,8 @@ mod tests {
         );
         assert_eq!(faults("a;b\n1,2", 2), ["1: the header has 1 name, and the rule has 2 inputs"]);
         assert_eq!(faults("1,2\na,b", 2).len(), 2);
+        assert_eq!(rows("haul time\n5\n", 1), [[5]]);
+        assert_eq!(faults("a,b\n5", 1), ["1: the header has 2 names, and the rule has 1 input"]);
     }
 
     #[test]
@@ -193,6 +197,7 @@ mod tests {
         let no_number = |input, text| {
             format!("1: input {input} is {text:?}, which is no whole number in decimal digits")
         };
+        assert_eq!(faults("l2\n5", 1), [no_number(1, "l2")]);
         assert_eq!(faults("l2, 5", 2), [no_number(1, "l2")]);
         assert_eq!(faults("l2 5", 2), [no_number(1, "l2")]);
         assert_eq!(faults("+5, 5", 2), [no_number(1, "+5")]);

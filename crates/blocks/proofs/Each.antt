@@ -27,7 +27,7 @@ module _ (p : ℕ → Bool) (k e : ℕ) where
   pub each-go : k < e → p k ≡ true → each p k (e - k) ≡ each p (k + 1) (e - (k + 1))
   each-go h y = each-more h ∙ rw y
 
--- it holds of each exactly if it holds of all
+-- `each` is true exactly if the test is true of every number
 module _ (p : ℕ → Bool) where
   pub each-all : (n k : ℕ) → ((i : ℕ) → k ≤ i → i < k + n → p i ≡ true) → each p k n ≡ true
   unfolding each

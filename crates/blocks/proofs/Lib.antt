@@ -8,7 +8,6 @@
 --     Records     the words of a report's records
 --     Reading     the bytes of a path's record, read back, tell the path
 --     Checks      every check of written records agrees
---     Copied      words copied one by one over a list
 pub mod Bytes
 pub mod Each
 pub mod Check
@@ -18,4 +17,3 @@ pub mod Rows
 pub mod Records
 pub mod Reading
 pub mod Checks
-pub mod Copied

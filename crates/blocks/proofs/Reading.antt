@@ -2,7 +2,7 @@
 -- Assumes nothing.
 use mathlib.Core.Path.{_≡_, refl, sym, ap, _∙_}
 use mathlib.Core.Bool.{true}
-use mathlib.Core.List.{List, [], _∷_, _++_, append-assoc, map, flatMap, List·Memᴰ·head as here, List·Memᴰ·tail as there}
+use mathlib.Core.List.{List, [], _∷_, _++_, append-nil, append-assoc, map, flatMap, List·Memᴰ·head as here, List·Memᴰ·tail as there}
 use mathlib.Core.Option.{some}
 use Prim.Native.Nat.{ℕ, zero, suc, _+_, _-_, _*_, _^_, _≤_, _<_}
 use native.Mathlib.Omega.{arith}
@@ -54,8 +54,16 @@ module _ (ws : List ℕ) (few : length ws ≤ payloadWords) where
       getD-padded ws (payloadWords - length ws) k ∙ sym (h k m) ∙ sym (from-at (wordAt bytes) 0 payloadWords 0 k m ∙ ap (wordAt bytes) (zero-add k)))) in
       eq-eqb (check words) (wordAt bytes payloadWords) (ap check same ∙ sym e)
 
-  pub block-agrees : Words ws → agrees (block ws) ≡ true
-  block-agrees h = reads-agree (block ws) (block-word h) block-check
+  -- the block in front of others, and alone
+  pub front-agrees : (rest : List ℕ) → Words ws → agrees (block ws ++ rest) ≡ true
+  front-agrees rest h =
+      let n = block-length ws few in
+      reads-agree (block ws ++ rest)
+      (λ k l. word-left (block ws) rest k (omega (arith, n)) ∙ block-word h k l)
+      (word-left (block ws) rest payloadWords (omega (arith, n)) ∙ block-check)
+
+  block-agrees : Words ws → agrees (block ws) ≡ true
+  block-agrees h = rw append-nil at (front-agrees [] h)
 
 -- low and high of each interval in turn
 
@@ -142,10 +150,10 @@ module _ (n : ℕ) (p : Path) (inputs : length (p .box) ≤ mostInputs) (registe
       let g = getD-drop 1 (p .registers) r (0 ⋯ 0) in
       (rw a (e .0 ∙ ap (λ (v : Interval). v .low) g), rw b (e .1 ∙ ap (λ (v : Interval). v .high) g))
 
-  first-few : length (firstWords n p) ≤ payloadWords
+  pub first-few : length (firstWords n p) ≤ payloadWords
   first-few = omega (arith, first-length n p inputs)
 
-  second-few : length (secondWords n p) ≤ payloadWords
+  pub second-few : length (secondWords n p) ≤ payloadWords
   second-few = omega (arith, second-length)
 
   pub record-length : length (recordOf n p) ≡ recordBytes (length (p .box))
@@ -156,10 +164,10 @@ module _ (n : ℕ) (p : Path) (f : Fits n p) where
   abbrev bytes : List ℕ
   bytes = recordOf n p
 
-  pub few : length (firstWords n p) ≤ payloadWords
+  few : length (firstWords n p) ≤ payloadWords
   few = first-few n p (f .inputs) (f .registers)
 
-  pub few-again : length (secondWords n p) ≤ payloadWords
+  few-again : length (secondWords n p) ≤ payloadWords
   few-again = second-few n p (f .inputs) (f .registers)
 
   in-first : (k : ℕ) → k ≤ payloadWords → wordAt bytes k ≡ wordAt (block (firstWords n p)) k
@@ -201,7 +209,7 @@ module _ (n : ℕ) (p : Path) (f : Fits n p) where
         reason = tail-word 2 (omega arith);
         reads = tail-word 3 (omega arith);
         rest = λ k l m. first-word k m ∙ List·getD-eq-default (firstWords n p) 0 {n = k} (omega (arith, first-length n p (f .inputs)));
-        checks = reads-agree (firstWords n p) few bytes first-word (in-first payloadWords (omega arith) ∙ block-check (firstWords n p) few);
+        checks = unfold recordOf in front-agrees (firstWords n p) few (block (secondWords n p)) (f .first);
         number-again = second-word 0 (omega arith);
         register-low = λ r l m.
             let (a, b) = register-word (r - 1) (omega arith) in

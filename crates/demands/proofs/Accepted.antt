@@ -85,3 +85,8 @@ module _ (j : Job) (sound : Sound j (j .box)) (p : Path) (m : p ∈ listing j) w
   pub path-registers : length (p .registers) ≡ 32
   unfolding pathOf from
   path-registers = subst (λ (q : Path). length (q .registers) ≡ 32) (listing-ended j sound p m .path) refl
+
+-- so they fit a record's places
+pub paths-fit : (j : Job) → Sound j (j .box) → length (j .box) ≤ mostInputs → (p : Path) → p ∈ listing j
+    → (length (p .box) ≤ mostInputs) × (length (p .registers) ≡ 32)
+paths-fit j sound few p m = (omega (arith, path-inputs j sound p m), path-registers j sound p m)

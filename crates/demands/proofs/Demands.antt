@@ -4,29 +4,25 @@ use mathlib.Core.Path.{_≡_, refl, sym, subst}
 use mathlib.Core.Bool.{true}
 use mathlib.Core.List.{List, Memᴰ·of-map}
 use mathlib.Core.Option.{none}
-use Prim.Native.Nat.{ℕ, _≤_}
-use native.Mathlib.Omega.{arith}
+use Prim.Native.Nat.{ℕ}
 use lib.ListN.{length}
-use Rattle.boxes.specs.Boxes.{_∈_}
-use Rattle.listing.specs.Group.{Job}
+use Rattle.boxes.specs.Boxes.{keep, _∈_}
 use Rattle.corners.proofs.Enough.{none-waits}
-use Rattle.blocks.specs.Record.{mostInputs}
 use Rattle.calls.specs.Call.{Call, Left, isPage, refusalOf, jobOf, replyTo, called}
 use Rattle.calls.specs.Engine.{Engine, Lent, Leaves, Meets, Answers, Exchange, History}
 use Rattle.calls.specs.Refuses.{Refuses, Responds}
 use Rattle.calls.specs.Reported.{Reported}
-use Rattle.calls.specs.Together.{Together}
+use Rattle.calls.specs.Together.{isAccepted, Together}
 use Rattle.demands.proofs.Refuses.{refused, accepted, unchanged, page-passes}
-use Rattle.demands.proofs.Accepted.{accepted-sound, job-inputs, path-inputs, path-registers}
+use Rattle.demands.proofs.Accepted.{accepted-sound, paths-fit}
 use Rattle.demands.proofs.Complete.{listing-complete}
 use Rattle.demands.proofs.Reported.{reported}
-use Rattle.demands.proofs.Histories.{exchanges, calls, history-is, history-made, memory-kept, table-zero, replies, accepted-fair}
-use Rattle.demands.proofs.Joined.{same-job, join, pages-some}
-use Rattle.corners.specs.Good.{Sound}
+use Rattle.demands.proofs.Histories.{exchanges, calls, history-is, history-made, memory-kept, table-zero, replies, Fair, accepted-fair}
+use Rattle.demands.proofs.Joined.{fair-sound, fair-few, join, pages-some}
 
 -- of what `called` leaves
 
-pub accepted-refusal : (memory table : List ℕ) (c : Call) → isPage (called memory table c .reply .answer) ≡ true
+accepted-refusal : (memory table : List ℕ) (c : Call) → isPage (called memory table c .reply .answer) ≡ true
     → refusalOf memory (length table) c ≡ none
 unfolding called replyTo
 accepted-refusal memory table c e = page-passes memory (length table) c (refusalOf memory (length table) c) e
@@ -60,14 +56,8 @@ together memory table cs lent =
       replies = replies memory words table cs refl;
       pages = λ c r.
           let (x, m, s) = pages-some r in
-          let f = fair x m in
-          let e = same-job memory words c s in
-          let sound : Sound (jobOf memory words c) (jobOf memory words c .box) =
-          subst (λ (i : Job). Sound i (i .box)) e
-          (accepted-sound memory words (x .call) (f .passes) (f .memory-words) (f .typed .intervals)) in
-          let few = subst (λ (i : Job). length (i .box) ≤ mostInputs) e (job-inputs memory words (x .call) (f .passes)) in
-          let (a, b) = join memory words c
-          (λ p i. (omega (arith, path-inputs (jobOf memory words c) sound p i), path-registers (jobOf memory words c) sound p i)) r fair in
+          let sound = fair-sound memory words c (fair x m) s in
+          let (a, b) = join memory words c (paths-fit (jobOf memory words c) sound (fair-few memory words c (fair x m) s)) r fair in
           record { paths = a; bytes = b; complete = listing-complete (jobOf memory words c) sound };
     }
 
@@ -86,12 +76,18 @@ module _ (E : Engine) (meets : Meets E) where
       let q = meets memory table c l lent e in
       rw q (reports memory table c lent (rw q at a))
 
-  pub demand-3 : {memory table : List ℕ} {xs : List Exchange} → ((x : Exchange) → x ∈ xs → Lent memory table (x .call))
-      → History E memory table xs → Together memory table xs
-  demand-3 {memory} {table} {xs} lent h =
-      let of-calls : (c : Call) → c ∈ calls xs → Lent memory table c =
-      λ c m. let (x, n, e) = Memᴰ·of-map (λ (x : Exchange). x .call) xs m in rw e at (lent x n) in
-      subst (Together memory table) (sym (history-is E meets lent h)) (together memory table (calls xs) of-calls)
+  module _ {memory table : List ℕ} {xs : List Exchange} (lent : (x : Exchange) → x ∈ xs → Lent memory table (x .call)) (h : History E memory table xs) where
+    calls-lent : (c : Call) → c ∈ calls xs → Lent memory table c
+    calls-lent c m = let (x, n, e) = Memᴰ·of-map (λ (x : Exchange). x .call) xs m in rw e at (lent x n)
+
+    pub demand-3 : Together memory table xs
+    demand-3 = subst (Together memory table) (sym (history-is E meets lent h)) (together memory table (calls xs) calls-lent)
+
+    -- each accepted call of the list, with its page
+    pub history-fair : (x : Exchange) → x ∈ keep isAccepted xs → Fair memory (length table) x
+    history-fair x m =
+        accepted-fair memory (length table) table (calls xs) refl calls-lent x
+        (subst (λ (ys : List Exchange). x ∈ keep isAccepted ys) (history-is E meets lent h) m)
 
   -- and each list of calls that are lent has such a history
   pub demand-3-made : Answers E → {memory table : List ℕ} (cs : List Call) → ((c : Call) → c ∈ cs → Lent memory table c)

@@ -1,8 +1,8 @@
 -- The pages of one job, joined.
 -- Assumes nothing.
-use mathlib.Core.Path.{_≡_, refl, sym, ap, _∙_}
+use mathlib.Core.Path.{_≡_, refl, sym, ap, _∙_, subst}
 use mathlib.Core.List.{List, _++_, append-nil, flatMap, List·Memᴰ·head as here, List·Memᴰ·tail as there}
-use Prim.Native.Nat.{ℕ, _+_, _*_, _≤_}
+use Prim.Native.Nat.{ℕ, _+_, _*_, _^_, _≤_, _<_}
 use native.Mathlib.Omega.{arith}
 use lib.Dec.{ltb}
 use lib.ListN.{length, drop, length-take, length-drop}
@@ -18,6 +18,8 @@ use Rattle.blocks.proofs.Reading.{records-append, records-length}
 use Rattle.calls.specs.Call.{Call, inputsOf, written, more, jobOf, page, replyBy}
 use Rattle.calls.specs.Engine.{Exchange}
 use Rattle.calls.specs.Together.{SameJob, Pages, last, next, bytesWritten}
+use Rattle.corners.specs.Good.{Sound}
+use Rattle.demands.proofs.Accepted.{accepted-sound, job-inputs, inputs-counted}
 use Rattle.demands.proofs.Histories.{Fair}
 
 module _ (memory : List ℕ) (words : ℕ) (c : Call) where
@@ -27,6 +29,21 @@ module _ (memory : List ℕ) (words : ℕ) (c : Call) where
   pub same-job : {d : Call} → SameJob d c → jobOf memory words d ≡ j
   unfolding jobOf
   same-job s = cc
+
+  -- what an accepted call of the job says of it
+  module _ {x : Exchange} (f : Fair memory words x) (s : SameJob (x .call) c) where
+    pub fair-sound : Sound j (j .box)
+    fair-sound = subst (λ (i : Job). Sound i (i .box)) (same-job s) (accepted-sound memory words (x .call) (f .passes) (f .memory-words) (f .typed .intervals))
+
+    pub fair-few : length (j .box) ≤ mostInputs
+    fair-few = subst (λ (i : Job). length (i .box) ≤ mostInputs) (same-job s) (job-inputs memory words (x .call) (f .passes))
+
+    pub fair-counted : length (j .box) ≡ inputsOf c
+    fair-counted = rw (← same-job s, ← s .intervals) (inputs-counted memory words (x .call) (f .passes))
+
+    pub fair-limit : j .limit < 2 ^ 64
+    unfolding jobOf
+    fair-limit = rw (← s .limit) (f .typed .limit)
 
   module _ (fits : (p : Path) → p ∈ listing j → (length (p .box) ≤ mostInputs) × (length (p .registers) ≡ 32)) where
     module _ (x : Exchange) (f : Fair memory words x) (s : SameJob (x .call) c) where

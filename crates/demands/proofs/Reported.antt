@@ -19,7 +19,7 @@ use Rattle.calls.specs.Call.{Call, inputsOf, Below, Typed, written, more, asks,
 use Rattle.calls.specs.Limits.{firstEnd}
 use Rattle.calls.specs.Reported.{Told, Reported}
 use Rattle.calls.specs.declared.Refusal.the-variants.{First}
-use Rattle.demands.proofs.Accepted.{accepted-yes, accepted-sound, job-inputs, path-inputs, path-registers}
+use Rattle.demands.proofs.Accepted.{accepted-yes, accepted-sound, job-inputs, paths-fit}
 use Rattle.demands.proofs.Faithful.{listing-faithful}
 use Rattle.demands.proofs.Words.{path-fits}
 use Rattle.corners.specs.Good.{Sound}
@@ -39,9 +39,7 @@ module _ (memory : List ℕ) (words : ℕ) (c : Call) (bounded : Below (2 ^ 64) 
   page-mem p m = part-mem (recordsIn (inputsOf c) (c .report)) (c .first) (listing j) m
 
   fits : (p : Path) → p ∈ ps → (length (p .box) ≤ mostInputs) × (length (p .registers) ≡ 32)
-  fits p m =
-      let i = page-mem p m in
-      (omega (arith, path-inputs j sound p i, job-inputs memory words c e), path-registers j sound p i)
+  fits p m = paths-fit j sound (job-inputs memory words c e) p (page-mem p m)
 
   page-length : length ps ≡ min (recordsIn (inputsOf c) (c .report)) (length (listing j) - c .first)
   unfolding page

@@ -18,7 +18,7 @@ use Rattle.calls.specs.declared.Refusal.the-variants.{Code, Inputs, Order, Limi
 use Rattle.jobs.specs.Job.{codeCount, inputCount, givenCount, codeAt, memoryAt, intervalAt, codeIn, intervalsIn, memoryIn, jobRead, callIn, codeFits, ordered, limitFits, firstFits, jobRefusalOf}
 use Rattle.jobs.specs.Reading.{over}
 use Rattle.calls.proofs.Asked.{yes-on}
-use Rattle.blocks.proofs.Copied.{copied}
+use Rattle.jobs.proofs.Copied.{copied}
 use Rattle.jobs.proofs.Asked.{yes-passed, yes-sized}
 
 -- how much is read

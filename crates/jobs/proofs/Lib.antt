@@ -1,7 +1,7 @@
 -- The laws that the reader of a job is proved by.
 --     Placed      the words of a job as the code finds them
 --     Pairs       two more words of the intervals
---     Copied      what copied words leave of a list
+--     Copied      one more word of those that are copied
 --     Asked       what the questions on a job leave
 --     Accepted    an accepted job leaves only questions 5 and 7 of a call
 --     Numbers     no two refusals share a number

@@ -1,3 +1,5 @@
 -- What a caller in C learns from the numbers of an answer.
 --     Seen        0 and the numbers of refusals, against the questions
+--     Rows        rows in the reports that were written
 pub mod Seen
+pub mod Rows

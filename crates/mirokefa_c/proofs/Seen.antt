@@ -18,7 +18,8 @@ use Rattle.jobs.specs.Job.{jobNumber}
 use Rattle.jobs.specs.declared.JobRefusal.{JobRefusal}
 use Rattle.reports.specs.Placing.{PlaceCall, placeAsks, placeQuestions, placeNumber, placed, answerNumber}
 use Rattle.reports.specs.declared.PlaceRefusal.{PlaceRefusal}
-use Rattle.reports.proofs.Promises.{places, placed-numbers}
+use Rattle.reports.proofs.Numbers.{placed-numbers}
+use Rattle.reports.proofs.Promises.{places}
 use Rattle.serving.specs.Served.{served, outcomeOf}
 use Rattle.serving.specs.Server.{serverQuestions, serverAsks}
 use Rattle.serving.specs.declared.Served.{Served}

@@ -4,9 +4,11 @@ use mathlib.Core.Path.{_≡_, refl}
 use mathlib.Core.List.{List, [], _∷_, _++_, flatMap}
 use Prim.Native.Nat.{ℕ, _+_, _-_}
 use lib.ListN.{set, drop, replicate}
-use Rattle.boxes.specs.Boxes.{from, every}
+use Rattle.boxes.specs.Boxes.{Interval, _⋯_, from, every}
+use Rattle.listing.specs.Listing.{Path}
+use Rattle.listing.specs.declared.End.the-variants.{Exit}
 use Rattle.blocks.specs.Block.{bytesOf, numberOf, checkFrom, block, each, checksAgree}
-use Rattle.blocks.specs.Record.{padded}
+use Rattle.blocks.specs.Record.{padded, firstWords, secondWords, recordOf, records}
 use Rattle.calls.specs.Call.{firstNo}
 use Rattle.reports.specs.Readable.{readable}
 use Rattle.reports.specs.Placing.{holds, placing, noPath, placeCallOf, placeAsks, placedBy, placed, answerNumber}
@@ -30,18 +32,38 @@ abbrev twoInputs : List ℕ
 twoInputs =
     recordWith 4 2 (0 ∷ 6 ∷ []) (9 ∷ 5 ∷ []) ++ recordWith 0 2 (0 ∷ 5 ∷ []) (9 ∷ 5 ∷ []) ++ recordWith 1 2 (0 ∷ 6 ∷ []) (9 ∷ noPath ∷ [])
 
+abbrev eight : List ℕ
+eight = 0 ∷ 1 ∷ 2 ∷ 3 ∷ 4 ∷ 5 ∷ 6 ∷ 7 ∷ []
+
+abbrev path : Interval → Path
+path v = record { end = Exit; pc = 28; steps = 7; box = v ∷ []; reads = 1; registers = replicate 32 (0 ⋯ 0) }
+
 unfoldable accepted : List (List ℕ)
 accepted =
     answer 1 overlapping (0 ∷ 5 ∷ 9 ∷ 10 ∷ 20 ∷ 21 ∷ []) 6
     ∷ answer 1 (drop 1024 overlapping) (9 ∷ 4 ∷ []) 2
     ∷ answer 2 twoInputs (9 ∷ 5 ∷ 9 ∷ 6 ∷ 10 ∷ 5 ∷ 0 ∷ 4 ∷ 3 ∷ noPath ∷ []) 5
-    -- no record, and no row
+    -- eight inputs, each of one value
+    ∷ answer 8 (recordWith 6 8 eight eight) (eight ++ 0 ∷ 1 ∷ 2 ∷ 3 ∷ 4 ∷ 5 ∷ 6 ∷ 8 ∷ []) 2
+    -- the two paths of Job A, as a call writes them
+    ∷ answer 1 (records 0 (path (0 ⋯ 9) ∷ path (10 ⋯ 255) ∷ [])) (0 ∷ 9 ∷ 10 ∷ 255 ∷ 256 ∷ []) 5
+    -- no record, as many rows as there may be, and no row
     ∷ answer 3 [] (1 ∷ 2 ∷ 3 ∷ []) 1
+    ∷ answer 1 [] (replicate 1024 0) 1024
     ∷ answer 1 overlapping [] 0
     ∷ []
 
-rows-placed : accepted ≡ (0 ∷ 7 ∷ 7 ∷ 7 ∷ 3 ∷ 3 ∷ noPath ∷ []) ∷ (0 ∷ 3 ∷ noPath ∷ []) ∷ (0 ∷ 0 ∷ 1 ∷ noPath ∷ noPath ∷ 1 ∷ []) ∷ (0 ∷ noPath ∷ []) ∷ (0 ∷ []) ∷ []
-unfolding accepted answer placed placedBy placeAsks firstNo readable placing holds every each checksAgree checkFrom numberOf bytesOf block from flatMap
+rows-placed : accepted
+    ≡ (0 ∷ 7 ∷ 7 ∷ 7 ∷ 3 ∷ 3 ∷ noPath ∷ [])
+    ∷ (0 ∷ 3 ∷ noPath ∷ [])
+    ∷ (0 ∷ 0 ∷ 1 ∷ noPath ∷ noPath ∷ 1 ∷ [])
+    ∷ (0 ∷ 6 ∷ noPath ∷ [])
+    ∷ (0 ∷ 0 ∷ 0 ∷ 1 ∷ 1 ∷ noPath ∷ [])
+    ∷ (0 ∷ noPath ∷ [])
+    ∷ (0 ∷ replicate 1024 noPath)
+    ∷ (0 ∷ [])
+    ∷ []
+unfolding accepted answer records recordOf firstWords secondWords placed placedBy placeAsks firstNo readable placing holds every each checksAgree checkFrom numberOf bytesOf block from flatMap
 rows-placed = refl
 
 unfoldable refused : List (List ℕ)

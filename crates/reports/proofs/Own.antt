@@ -1,9 +1,8 @@
 -- The rows of a job in its own complete report: each row of the starting box has the number of the one path that holds it.
 -- Assumes nothing.
 use mathlib.Core.Path.{_≡_, refl, sym, _∙_}
-use mathlib.Core.Bool.{true, and-eq-true-iff}
-use mathlib.Core.List.{List, [], _∷_, append-nil, flatMap, List·Memᴰ·eq-of-singleton}
-use mathlib.Core.Option.{none}
+use mathlib.Core.Bool.{true, false, and-eq-true-iff}
+use mathlib.Core.List.{List, [], _∷_, append-nil, flatMap}
 use Prim.Native.Nat.{ℕ, _+_, _-_, _*_, _%_, _^_, _≤_, _<_}
 use native.Mathlib.Nat.{zero-add}
 use native.Mathlib.Omega.{arith}
@@ -19,21 +18,23 @@ use Rattle.listing.specs.Group.{Job}
 use Rattle.listing.specs.Listing.{Path, listing}
 use Rattle.corners.specs.Good.{Sound}
 use Rattle.blocks.specs.Block.{wordAt}
-use Rattle.blocks.specs.Layout as place
+use Rattle.blocks.specs.Layout as layout
 use Rattle.blocks.specs.Reading.{Tells}
 use Rattle.blocks.specs.Record.{mostInputs, recordBytes, records}
 use Rattle.blocks.specs.Report.{recordsIn, recordAt}
 use Rattle.blocks.proofs.Checks.{checks-records}
 use Rattle.blocks.proofs.Each.{each-all, each-at}
 use Rattle.blocks.proofs.Reading.{Fits, records-length, records-at, record-tells}
-use Rattle.calls.specs.Call.{inputsOf, written, refusalOf, jobOf}
+use Rattle.calls.specs.Call.{Call, inputsOf, written, more, jobOf}
 use Rattle.calls.specs.Complete.{IsPath, Complete}
-use Rattle.calls.specs.Engine.{Engine, Lent, Leaves, Meets, Exchange, over, made}
-use Rattle.calls.specs.Together.{Pages, last, isAccepted, bytesWritten, Joined}
-use Rattle.demands.proofs.Accepted.{accepted-sound, job-inputs, inputs-counted, path-inputs, path-registers}
+use Rattle.calls.specs.Engine.{Engine, Lent, Leaves, Meets, Exchange, History}
+use Rattle.calls.specs.Together.{SameJob, last, isAccepted, bytesWritten}
+use Rattle.demands.proofs.Accepted.{path-inputs, paths-fit}
 use Rattle.demands.proofs.Complete.{listing-complete}
-use Rattle.demands.proofs.Demands.{accepted-refusal, demand-2, demand-3, leaves-meets}
+use Rattle.demands.proofs.Demands.{demand-2, demand-3, history-fair, leaves-meets}
 use Rattle.demands.proofs.Faithful.{listing-faithful}
+use Rattle.demands.proofs.Histories.{Fair}
+use Rattle.demands.proofs.Joined.{fair-sound, fair-few, fair-counted, fair-limit, pages-some}
 use Rattle.demands.proofs.Words.{path-fits}
 use Rattle.reports.specs.Readable.{recordsOf, hasCount, readable}
 use Rattle.reports.specs.Placing.{rowsIn, rowAt, between, holds, noPath, placing, PlaceCall, placeCallOf, rowsFit, placeAsks, placed}
@@ -61,7 +62,7 @@ module _ (j : Job) (able : Reportable j) where
   report = records 0 (listing j)
 
   fits : (p : Path) → p ∈ listing j → (length (p .box) ≤ mostInputs) × (length (p .registers) ≡ 32)
-  fits p m = (omega (arith, able .few, path-inputs j (able .sound) p m), path-registers j (able .sound) p m)
+  fits = paths-fit j (able .sound) (able .few)
 
   report-length : length report ≡ recordBytes n * length (listing j)
   report-length = records-length n 0 (listing j) fits
@@ -96,8 +97,8 @@ module _ (j : Job) (able : Reportable j) where
         let z : k < mostInputs = omega (arith, able .few, inputs-are) in
         let b = each-at (between (recordAt n report i) row) n 0 h k (omega arith) (omega (arith, inputs-are)) in
         let bytes = recordAt n report i in
-        let (low, high) = and-eq-true-iff (leb (wordAt bytes (place.lows + k)) (at row k)) (leb (at row k) (wordAt bytes (place.highs + k))) .0 b in
-        (rw (tells .low k z) at (leb-true (wordAt bytes (place.lows + k)) (at row k) low), rw (tells .high k z) at (leb-true (at row k) (wordAt bytes (place.highs + k)) high)))
+        let (low, high) = and-eq-true-iff (leb (wordAt bytes (layout.lows + k)) (at row k)) (leb (at row k) (wordAt bytes (layout.highs + k))) .0 b in
+        (rw (tells .low k z) at (leb-true (wordAt bytes (layout.lows + k)) (at row k) low), rw (tells .high k z) at (leb-true (at row k) (wordAt bytes (layout.highs + k)) high)))
 
     inside-holds : (row : Choice) → Inside row (p .box) → holds n row (recordAt n report i) ≡ true
     unfolding holds
@@ -115,9 +116,9 @@ module _ (j : Job) (able : Reportable j) where
       ∙ each-all (countAt n report) (recordsIn n report) 0
       (λ i l m. let (p, e) = path-at i (omega arith) in eq-eqb _ _ (tells i p e .inputs ∙ inputs-are i p e))
 
-  own-readable : readable n report ≡ true
+  listing-readable : readable n report ≡ true
   unfolding readable
-  own-readable =
+  listing-readable =
       rw (
         le-leb _ _ (able .some-input),
         le-leb _ _ (able .few),
@@ -134,8 +135,8 @@ module _ (j : Job) (able : Reportable j) where
     x = placing n (recordsOf n report) row
 
     -- the path that holds a choice of the starting box has the first record that does
-    own-path : Inside row (j .box) → OnPath j row x
-    own-path h =
+    listed-path : Inside row (j .box) → OnPath j row x
+    listed-path h =
         let (m, p, e, i) = complete .some-path row h in
         let l = inside-length (j .box) row h in
         let first : FirstHolds n report row m =
@@ -158,8 +159,8 @@ module _ (j : Job) (able : Reportable j) where
           faithful = listing-faithful j (able .sound) p (in-listing m p e);
         }
 
-    own-outside : length row ≡ n → (Inside row (j .box) → ⊥) → x ≡ noPath
-    own-outside l h =
+    listed-outside : length row ≡ n → (Inside row (j .box) → ⊥) → x ≡ noPath
+    listed-outside l h =
         placing-none n report row
         (λ k b.
         let (p, e) = path-at k b in
@@ -168,76 +169,76 @@ module _ (j : Job) (able : Reportable j) where
         (λ held-not. held-not))
 
 -- of what an engine that meets the contract of a call wrote
-module _ (E : Engine) (meets : Meets E) {memory table : List ℕ} (x : Exchange) (lent : Lent memory table (x .call))
-    (made-by : E memory table (x .call) (x .left)) (own : OwnReport x) where
+module _ (E : Engine) (meets : Meets E) {memory table : List ℕ} {xs : List Exchange} (lent : (x : Exchange) → x ∈ xs → Lent memory table (x .call))
+    (history : History E memory table xs) (c : Call) (report : List ℕ) (own : OwnReport c (keep isAccepted xs) report) where
   abbrev j : Job
-  j = jobOf memory (length table) (x .call)
+  j = jobOf memory (length table) c
 
-  kept : keep isAccepted (x ∷ []) ≡ x ∷ []
-  unfolding keep
-  kept = rw (own .accepted)
+  report-is : report ≡ records 0 (listing j)
+  report-is = own .bytes ∙ demand-3 E meets lent history .pages c (own .pages) .bytes
 
-  -- the page is the whole listing
-  joined : Joined j (x ∷ [])
-  joined =
-      let all : (y : Exchange) → y ∈ (x ∷ []) → Lent memory table (y .call) = λ y m. rw (List·Memᴰ·eq-of-singleton m) lent in
-      let pages : Pages (x .call) 0 (x ∷ []) = last (record { code = refl; intervals = refl; limit = refl }) (own .from-0) (own .no-further) in
-      rw kept at (demand-3 E meets all (made made-by over) .pages (x .call) (rw kept pages))
+  -- one of the calls
+  asked : (x : Exchange) × Fair memory (length table) x × SameJob (x .call) c
+  asked = let (x, m, s) = pages-some (own .pages) in (x, history-fair E meets lent history x m, s)
 
-  page-is : bytesWritten x ≡ records 0 (listing j)
-  unfolding flatMap
-  page-is = sym (append-nil (bytesWritten x)) ∙ joined .bytes
-
-  passes : refusalOf memory (length table) (x .call) ≡ none
-  passes = accepted-refusal memory table (x .call) (rw (meets memory table (x .call) (x .left) lent made-by) at (own .accepted))
-
-  counted : length (j .box) ≡ inputsOf (x .call)
-  counted = inputs-counted memory (length table) (x .call) passes
+  counted : length (j .box) ≡ inputsOf c
+  counted = fair-counted memory (length table) c (asked .1) (asked .2)
 
   able : Reportable j
   able =
-      let used = recordBytes (inputsOf (x .call)) * written (x .left .reply .answer) in
+      let (x, f, s) = asked in
       record {
-        sound = accepted-sound memory (length table) (x .call) passes (lent .memory-words) (lent .typed .intervals);
-        limit = unfold jobOf in lent .typed .limit;
+        sound = fair-sound memory (length table) c f s;
+        limit = fair-limit memory (length table) c f s;
         some-input = omega (arith, counted, own .inputs);
-        few = job-inputs memory (length table) (x .call) passes;
-        size = rw (sym page-is, length-take used (x .left .reply .report)) (omega (arith, demand-2 E meets lent made-by (own .accepted) .size, lent .typed .bytes));
+        few = fair-few memory (length table) c f s;
+        size = rw report-is at (own .size);
       }
 
-  pub own-placed : (rows answers : List ℕ) → rowsFit (inputsOf (x .call)) rows answers ≡ true
-      → OwnAnswers j (inputsOf (x .call)) rows (placed (placeCallOf (inputsOf (x .call)) (bytesWritten x) rows answers))
+  -- question 12 never turns such a report away
+  pub own-readable : readable (inputsOf c) report ≡ true
+  own-readable = rw (report-is, sym counted) (listing-readable j able)
+
+  pub own-placed : (rows answers : List ℕ) → rowsFit (inputsOf c) rows answers ≡ true
+      → OwnAnswers j (inputsOf c) rows (placed (placeCallOf (inputsOf c) report rows answers))
   own-placed rows answers fit =
       record {
         answered = a;
-        from-box = λ k l h. rw (row-answer c a k l, same (row k)) (own-path j able (row k) h);
-        outside = λ k l h. row-answer c a k l ∙ same (row k) ∙ own-outside j able (row k) (row-length k l ∙ sym counted) h;
+        from-box = λ k l h. rw (row-answer call a k l, same (row k)) (listed-path j able (row k) h);
+        outside = λ k l h. row-answer call a k l ∙ same (row k) ∙ listed-outside j able (row k) (row-length k l ∙ sym counted) h;
       }
     where
       n : ℕ
-      n = inputsOf (x .call)
+      n = inputsOf c
 
-      c : PlaceCall
-      c = placeCallOf n (bytesWritten x) rows answers
+      call : PlaceCall
+      call = placeCallOf n report rows answers
 
       row : ℕ → List ℕ
       row k = rowAt n rows k
 
-      asked : (q : PlaceRefusal) → placeAsks c q ≡ true
-      asked Records = unfold placeAsks in rw (page-is, sym counted) (own-readable j able)
-      asked Rows = unfold placeAsks in fit
+      yes : (q : PlaceRefusal) → placeAsks call q ≡ true
+      yes Records = unfold placeAsks in own-readable
+      yes Rows = unfold placeAsks in fit
 
-      a : placed c .answer ≡ Answered
-      a = places c .accepted .1 asked
+      a : placed call .answer ≡ Answered
+      a = places call .accepted .1 yes
 
-      same : (r : List ℕ) → placing n (recordsOf n (bytesWritten x)) r ≡ placing (length (j .box)) (recordsOf (length (j .box)) (records 0 (listing j))) r
-      same r = rw (page-is, counted)
+      same : (r : List ℕ) → placing n (recordsOf n report) r ≡ placing (length (j .box)) (recordsOf (length (j .box)) (records 0 (listing j))) r
+      same r = rw (report-is, counted)
 
       row-length : (k : ℕ) → k < rowsIn n rows → length (row k) ≡ n
       row-length k l = length-take-le n (drop (n * k) rows) (rw length-drop (omega (arith, row-inside n rows k l)))
 
--- of `explore`, whose contract names the relation `Leaves`
-pub explore-placed : {memory table : List ℕ} (x : Exchange) → Lent memory table (x .call) → Leaves memory table (x .call) (x .left) → OwnReport x
-    → (rows answers : List ℕ) → rowsFit (inputsOf (x .call)) rows answers ≡ true
-    → OwnAnswers (jobOf memory (length table) (x .call)) (inputsOf (x .call)) rows (placed (placeCallOf (inputsOf (x .call)) (bytesWritten x) rows answers))
-explore-placed = own-placed Leaves leaves-meets
+-- one page that a call wrote from path 0 on, with no further path
+pub one-page : {memory table : List ℕ} (x : Exchange) → Lent memory table (x .call) → Leaves memory table (x .call) (x .left) → isAccepted x ≡ true
+    → 1 ≤ inputsOf (x .call) → x .call .first ≡ 0 → more (x .left .reply .answer) ≡ false → OwnReport (x .call) (x ∷ []) (bytesWritten x)
+unfolding flatMap
+one-page x lent leaves accepted inputs from-0 no-further =
+    let used = recordBytes (inputsOf (x .call)) * written (x .left .reply .answer) in
+    record {
+      inputs = inputs;
+      pages = last (record { code = refl; intervals = refl; limit = refl }) from-0 no-further;
+      bytes = sym (append-nil (bytesWritten x));
+      size = rw (length-take used (x .left .reply .report)) (omega (arith, demand-2 Leaves leaves-meets lent leaves accepted .size, lent .typed .bytes));
+    }

@@ -16,8 +16,8 @@ use Rattle.calls.specs.Call.{firstNo}
 use Rattle.calls.proofs.Asked.{all-yes, first-no}
 use Rattle.blocks.specs.Record.{mostInputs}
 use Rattle.reports.specs.Readable.{recordsOf, readable}
-use Rattle.reports.specs.Placing.{rowsIn, rowAt, placing, placings, mostRows, PlaceCall, placedLeft, placeAsks, placeQuestions, placeNumber, placedBy, placed}
-use Rattle.reports.specs.Placed.{Places, PlacedInNumbers}
+use Rattle.reports.specs.Placing.{rowsIn, rowAt, placing, placings, mostRows, PlaceCall, placedLeft, placeAsks, placeQuestions, placedBy, placed}
+use Rattle.reports.specs.Placed.{Places, SameAnswers}
 use Rattle.reports.specs.declared.PlaceRefusal.{PlaceRefusal}
 use Rattle.reports.specs.declared.PlaceRefusal.the-variants.{Records, Rows}
 use Rattle.reports.specs.declared.Placed.{Placed}
@@ -32,9 +32,9 @@ readable-inputs n report e =
     let (a, b) = and-eq-true-iff (leb 1 n) (leb n mostInputs) .0 (and-eq-true-iff (leb 1 n && leb n mostInputs) _ .0 e .0) in
     (leb-true 1 n a, leb-true n mostInputs b)
 
-pub among-questions : (r : PlaceRefusal) → r ∈ placeQuestions
-among-questions Records = here refl
-among-questions Rows = there (here refl)
+pub among-place-questions : (r : PlaceRefusal) → r ∈ placeQuestions
+among-place-questions Records = here refl
+among-place-questions Rows = there (here refl)
 
 module _ (c : PlaceCall) where
   abbrev count : ℕ
@@ -75,9 +75,9 @@ module _ (c : PlaceCall) where
   unfolding placeAsks
   answered-fits e =
       let yes = all-yes (placeAsks c) placeQuestions .0 (answered-by e) in
-      let fitting = and-eq-true-iff (eqb (length (c .rows) % c .inputs) 0) _ .0 (yes Rows (among-questions Rows)) .1 in
+      let fitting = and-eq-true-iff (eqb (length (c .rows) % c .inputs) 0) _ .0 (yes Rows (among-place-questions Rows)) .1 in
       let as-many = and-eq-true-iff (leb count mostRows) (eqb (length (c .answers)) count) .0 fitting .1 in
-      (readable-inputs (c .inputs) (c .report) (yes Records (among-questions Records)) .1, eqb-true (length (c .answers)) count as-many)
+      (readable-inputs (c .inputs) (c .report) (yes Records (among-place-questions Records)) .1, eqb-true (length (c .answers)) count as-many)
 
   -- answer and answers are all that it leaves
   pub left-is : {a : Placed} {l : List ℕ} → a ≡ placed c .answer → l ≡ placed c .answers → placedLeft a l ≡ placed c
@@ -96,41 +96,16 @@ module _ (c : PlaceCall) where
       let all = all-yes (placeAsks c) placeQuestions in
       record {
         refused = λ r. (λ e. first r .0 (refused-by r e), λ f. placed-refused r (first r .1 f) .0);
-        accepted = (λ e q. all .0 (answered-by e) q (among-questions q), λ h. placed-answered (all .1 (λ q m. h q)) .0);
+        accepted = (λ e q. all .0 (answered-by e) q (among-place-questions q), λ h. placed-answered (all .1 (λ q m. h q)) .0);
         kept = λ r e. placed-refused r (refused-by r e) .1;
         size = λ e. ap length (answers-are e) ∙ length-map (from 0 count) answerAt ∙ length-from count 0;
         each-row = λ e k l. rw (row-answer e k l) (row-placed (c .inputs) (c .report) (rowAt (c .inputs) (c .rows) k));
       }
 
--- a row's answer is the same whatever other rows come with it, and wherever it stands among them
-pub same-answer : (c d : PlaceCall) → c .inputs ≡ d .inputs → c .report ≡ d .report → placed c .answer ≡ Answered → placed d .answer ≡ Answered
-    → (i k : ℕ) → i < rowsIn (c .inputs) (c .rows) → k < rowsIn (d .inputs) (d .rows)
-    → rowAt (c .inputs) (c .rows) i ≡ rowAt (d .inputs) (d .rows) k → getD (placed c .answers) i 0 ≡ getD (placed d .answers) k 0
-same-answer c d n r a b i k l m e =
+-- two accepted calls on one report
+pub same-answers : (c d : PlaceCall) → c .inputs ≡ d .inputs → c .report ≡ d .report → placed c .answer ≡ Answered → placed d .answer ≡ Answered
+    → SameAnswers c d
+same-answers c d n r a b i k l m e =
     let same : placing (c .inputs) (recordsOf (c .inputs) (c .report)) (rowAt (c .inputs) (c .rows) i)
     ≡ placing (d .inputs) (recordsOf (d .inputs) (d .report)) (rowAt (d .inputs) (d .rows) k) = rw (e, n, r) in
     row-answer c a i l ∙ same ∙ sym (row-answer d b k m)
-
--- the answer's numbers
-
-number-injective : (q r : PlaceRefusal) → placeNumber q ≡ placeNumber r → q ≡ r
-number-injective Records Records e = refl
-number-injective Records Rows e = absurd (omega arith)
-number-injective Rows Records e = absurd (omega arith)
-number-injective Rows Rows e = refl
-
-number-positive : (r : PlaceRefusal) → 0 < placeNumber r
-number-positive Records = omega arith
-number-positive Rows = omega arith
-
-pub placed-numbers : (a : Placed) → PlacedInNumbers a
-placed-numbers (Refused q) =
-    record {
-      accepted = (λ e. absurd (omega (arith, number-positive q)), λ e. let z : _≡_ {A = ℕ} 0 1 = cc in absurd (omega arith));
-      refused = λ r. (λ e. ap Refused (number-injective q r e), λ e. let z : q ≡ r = cc in ap placeNumber z);
-    }
-placed-numbers Answered =
-    record {
-      accepted = (λ e. refl, λ e. refl);
-      refused = λ r. (λ e. absurd (omega (arith, number-positive r)), λ e. let z : _≡_ {A = ℕ} 0 1 = cc in absurd (omega arith));
-    }

@@ -7,14 +7,15 @@ use Prim.Native.Nat.{ℕ, zero, suc, _+_, _-_, _*_, _<_, _≤_}
 use native.Mathlib.Nat.{mul-suc, mul-le-mul-left, mul-div-le}
 use native.Mathlib.Numerals.{add-one}
 use native.Mathlib.Omega.{arith}
+use lib.Dec.{leb}
 use lib.ListN.{length, getD, drop}
 use lib.Seq.{getD-take, getD-drop}
 use Rattle.boxes.specs.Boxes.{at, from, every}
 use Rattle.blocks.specs.Block.{wordAt, each}
-use Rattle.blocks.specs.Layout as place
+use Rattle.blocks.specs.Layout as layout
 use Rattle.blocks.specs.Report.{recordsIn, recordAt}
 use Rattle.reports.specs.Readable.{recordsOf, hasCount}
-use Rattle.reports.specs.Placing.{rowsIn, rowAt, holds, noPath, placing, placings}
+use Rattle.reports.specs.Placing.{rowsIn, rowAt, between, holds, noPath, placing, placings}
 
 -- a test of every element, by its number
 every-each : {A : Type 0} (p : A → Bool) (f : ℕ → A) (n k : ℕ) → every p (map f (from k n)) ≡ each (λ (i : ℕ). p (f i)) k n
@@ -32,11 +33,11 @@ counts-each n report = every-each (hasCount n) (recordAt n report) (recordsIn n 
 -- the placing in the records k to e - 1, of which f gives each
 module _ (n : ℕ) (f : ℕ → List ℕ) (row : List ℕ) (k e : ℕ) where
   more : k < e → placing n (map f (from k (e - k))) row
-      ≡ cond (holds n row (f k)) (wordAt (f k) place.number) (placing n (map f (from (k + 1) (e - (k + 1)))) row)
+      ≡ cond (holds n row (f k)) (wordAt (f k) layout.number) (placing n (map f (from (k + 1) (e - (k + 1)))) row)
   unfolding placing from
   more h = let m : e - k ≡ suc (e - suc k) = omega arith in rw (add-one k, m)
 
-  pub placing-stop : k < e → holds n row (f k) ≡ true → placing n (map f (from k (e - k))) row ≡ wordAt (f k) place.number
+  pub placing-stop : k < e → holds n row (f k) ≡ true → placing n (map f (from k (e - k))) row ≡ wordAt (f k) layout.number
   placing-stop h y = more h ∙ rw y
 
   pub placing-go : k < e → holds n row (f k) ≡ false
@@ -52,8 +53,13 @@ module _ (n : ℕ) (rows : List ℕ) (k : ℕ) where
   pub row-inside : k < rowsIn n rows → n * k + n ≤ length rows
   row-inside h = omega (arith, mul-suc n k, mul-le-mul-left {m = suc k} {n = rowsIn n rows} n h, mul-div-le (length rows) n)
 
-  pub row-value : (i : ℕ) → i < n → at (rowAt n rows k) i ≡ getD rows (n * k + i) 0
+  row-value : (i : ℕ) → i < n → at (rowAt n rows k) i ≡ getD rows (n * k + i) 0
   row-value i h = getD-take n (drop (n * k) rows) i 0 h ∙ getD-drop (n * k) rows i 0
+
+  -- the code's test of one value
+  pub between-read : (bytes : List ℕ) (i : ℕ) {low high : ℕ} → i < n → low ≡ wordAt bytes (layout.lows + i) → high ≡ wordAt bytes (layout.highs + i)
+      → let x = getD rows (n * k + i) 0 in between bytes (rowAt n rows k) i ≡ leb low x && leb x high
+  between-read bytes i h l m = rw (row-value i h, l, m)
 
 -- the placings, by the number of the row
 module _ (n : ℕ) (report rows : List ℕ) where

@@ -2,22 +2,22 @@
 use mathlib.Core.Path.{_≡_}
 use mathlib.Core.Logic.{_↔_, _⊎_}
 use mathlib.Core.Bool.{true, false}
-use mathlib.Core.List.{List}
-use Prim.Native.Nat.{ℕ, _≤_, _<_}
+use mathlib.Core.List.{List, flatMap}
+use Prim.Native.Nat.{ℕ, _^_, _≤_, _<_}
 use lib.ListN.{length, getD}
 use Rattle.boxes.specs.Boxes.{Choice, Inside}
 use Rattle.listing.specs.Group.{Job}
 use Rattle.listing.specs.Listing.{Path}
 use Rattle.blocks.specs.Block.{wordAt}
-use Rattle.blocks.specs.Layout as place
+use Rattle.blocks.specs.Layout as layout
 use Rattle.blocks.specs.Report.{recordsIn, recordAt}
-use Rattle.calls.specs.Call.{inputsOf, more}
+use Rattle.calls.specs.Call.{Call, inputsOf}
 use Rattle.calls.specs.Complete.{IsPath}
 use Rattle.calls.specs.Faithful.{Faithful}
 use Rattle.calls.specs.Engine.{Exchange}
 use Rattle.calls.specs.Refuses.{FirstNo}
-use Rattle.calls.specs.Together.{isAccepted}
-use Rattle.reports.specs.Placing.{rowsIn, rowAt, holds, noPath, PlaceCall, PlacedLeft, placeAsks, placeQuestions, placeNumber, answerNumber}
+use Rattle.calls.specs.Together.{Pages, bytesWritten}
+use Rattle.reports.specs.Placing.{rowsIn, rowAt, holds, noPath, PlaceCall, PlacedLeft, placeAsks, placeQuestions, placeNumber, placed, answerNumber}
 use Rattle.reports.specs.declared.PlaceRefusal.{PlaceRefusal}
 use Rattle.reports.specs.declared.Placed.{Placed}
 use Rattle.reports.specs.declared.Placed.the-variants.{Refused, Answered}
@@ -33,7 +33,7 @@ pub record FirstHolds (n : ℕ) (report row : List ℕ) (i : ℕ) : Type 0 where
   pub not-before : (k : ℕ) → k < i → holds n row (recordAt n report k) ≡ false
 
 abbrev pub numberAt : ℕ → List ℕ → ℕ → ℕ
-numberAt n report k = wordAt (recordAt n report k) place.number
+numberAt n report k = wordAt (recordAt n report k) layout.number
 
 -- x is a row's answer
 pub record RowPlaced (n : ℕ) (report row : List ℕ) (x : ℕ) : Type 0 where
@@ -59,17 +59,24 @@ pub record Places (c : PlaceCall) (l : PlacedLeft) : Type 0 where
   pub each-row : l .answer ≡ Answered → (k : ℕ) → k < rowsIn (c .inputs) (c .rows)
       → RowPlaced (c .inputs) (c .report) (rowAt (c .inputs) (c .rows) k) (getD (l .answers) k 0)
 
+-- a row's answer is the same whatever other rows come with it, and wherever it stands among them
+abbrev pub SameAnswers : PlaceCall → PlaceCall → Type 0
+SameAnswers c d = (i k : ℕ) → i < rowsIn (c .inputs) (c .rows) → k < rowsIn (d .inputs) (d .rows)
+    → rowAt (c .inputs) (c .rows) i ≡ rowAt (d .inputs) (d .rows) k → getD (placed c .answers) i 0 ≡ getD (placed d .answers) k 0
+
 -- the number at the border says all of the answer
 pub record PlacedInNumbers (a : Placed) : Type 0 where
   pub accepted : (answerNumber a ≡ 0) ↔ (a ≡ Answered)
   pub refused : (r : PlaceRefusal) → (answerNumber a ≡ placeNumber r) ↔ (a ≡ Refused r)
 
--- a complete report of our own, for a job with inputs: an accepted call wrote it from path 0 on, and there is no further path
-pub record OwnReport (x : Exchange) : Type 0 where
-  pub inputs : 1 ≤ inputsOf (x .call)
-  pub accepted : isAccepted x ≡ true
-  pub from-0 : x .call .first ≡ 0
-  pub no-further : more (x .left .reply .answer) ≡ false
+-- a complete report of our own, of the job of c, which has inputs: the pages that accepted calls wrote, from path 0 on until none remains,
+-- joined; one page with no further path is such a report
+pub record OwnReport (c : Call) (accepted : List Exchange) (report : List ℕ) : Type 0 where
+  pub inputs : 1 ≤ inputsOf c
+  pub pages : Pages c 0 accepted
+  pub bytes : report ≡ flatMap bytesWritten accepted
+  -- it can be lent: its length is a word
+  pub size : length report < 2 ^ 64
 
 -- x is the number of the one path of the listing that holds the choice, and is not MAX
 pub record OnPath (j : Job) (choice : Choice) (x : ℕ) : Type 0 where
@@ -82,6 +89,7 @@ pub record OnPath (j : Job) (choice : Choice) (x : ℕ) : Type 0 where
 
 -- what a call leaves that places rows in a complete report of the job
 pub record OwnAnswers (j : Job) (n : ℕ) (rows : List ℕ) (l : PlacedLeft) : Type 0 where
+  -- it is not turned away
   pub answered : l .answer ≡ Answered
   -- every row from the starting box has the number of its path
   pub from-box : (k : ℕ) → k < rowsIn n rows → Inside (rowAt n rows k) (j .box) → OnPath j (rowAt n rows k) (getD (l .answers) k 0)

@@ -9,7 +9,7 @@ use lib.ListN.{length, take, drop}
 use Rattle.boxes.specs.Boxes.{at, from}
 use Rattle.riscu.specs.Lent.{LentList}
 use Rattle.blocks.specs.Block.{wordAt, each}
-use Rattle.blocks.specs.Layout as place
+use Rattle.blocks.specs.Layout as layout
 use Rattle.calls.specs.Call.{firstNo}
 use Rattle.reports.specs.Readable.{recordsOf, readable}
 use Rattle.reports.specs.declared.PlaceRefusal.{PlaceRefusal}
@@ -30,7 +30,7 @@ rowsOf n rows = map (rowAt n rows) (from 0 (rowsIn n rows))
 
 -- value i of a row lies between the low and the high that a record has for input i
 abbrev pub between : List ℕ → List ℕ → ℕ → Bool
-between bytes row i = leb (wordAt bytes (place.lows + i)) (at row i) && leb (at row i) (wordAt bytes (place.highs + i))
+between bytes row i = leb (wordAt bytes (layout.lows + i)) (at row i) && leb (at row i) (wordAt bytes (layout.highs + i))
 
 -- the box of a record holds a row of n values
 unfoldable pub holds : ℕ → List ℕ → List ℕ → Bool
@@ -43,7 +43,7 @@ noPath = 2 ^ 64 - 1
 -- the path number of the first record whose box holds the row, or MAX
 unfoldable pub placing : ℕ → List (List ℕ) → List ℕ → ℕ
 placing n [] row = noPath
-placing n (bytes ∷ records) row = cond (holds n row bytes) (wordAt bytes place.number) (placing n records row)
+placing n (bytes ∷ records) row = cond (holds n row bytes) (wordAt bytes layout.number) (placing n records row)
 
 -- each row's placing, in the order of the rows
 abbrev pub placings : ℕ → List ℕ → List ℕ → List ℕ

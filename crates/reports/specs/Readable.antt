@@ -6,7 +6,7 @@ use lib.Dec.{leb, eqb}
 use lib.ListN.{length}
 use Rattle.boxes.specs.Boxes.{from, every}
 use Rattle.blocks.specs.Block.{wordAt, checksAgree}
-use Rattle.blocks.specs.Layout as place
+use Rattle.blocks.specs.Layout as layout
 use Rattle.blocks.specs.Record.{mostInputs, recordBytes}
 use Rattle.blocks.specs.Report.{recordsIn, recordAt}
 
@@ -16,7 +16,7 @@ recordsOf n report = map (recordAt n report) (from 0 (recordsIn n report))
 
 -- the count in a record's word 4
 abbrev pub hasCount : ℕ → List ℕ → Bool
-hasCount n bytes = eqb (wordAt bytes place.inputs) n
+hasCount n bytes = eqb (wordAt bytes layout.inputs) n
 
 -- an input count of 1 to 8, whole records of that count, that count in word 4 of each, and every check right
 unfoldable pub readable : ℕ → List ℕ → Bool

@@ -31,14 +31,15 @@ fn counts_agree(report: &[u8], inputs: usize) -> bool
     true
 }
 
-// Question 12. Each test as the definition has it; `&` asks both sides, so that one test is one fact.
+// Question 12.
 pub fn is_readable(inputs: u64, report: &[u8]) -> bool
     ensures { λ r. ⌜ r ≡ readable inputs (now (report .entry)) ⌝ }
 {
+    if !((1 <= inputs) & (inputs <= MOST_INPUTS as u64)) {
+        return false;
+    }
     let n = inputs as usize;
-    let counted = (1 <= inputs) & (inputs <= MOST_INPUTS as u64);
-    let whole = report.len() % record_bytes(n) == 0;
-    counted & (whole & (counts_agree(report, n) & checks_agree(report)))
+    (report.len() % record_bytes(n) == 0) & (counts_agree(report, n) & checks_agree(report))
 }
 
 // Question 13.

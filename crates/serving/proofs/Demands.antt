@@ -213,7 +213,7 @@ exchange-called y o e =
 
 module _ (memory : List ℕ) where
   -- the calls of the list that are listed bring this memory
-  abbrev Brings : List ServedCall → Type 0
+  abbrev pub Brings : List ServedCall → Type 0
   Brings ys = (y : ServedCall) → y ∈ ys → isListed (y .left .answer) ≡ true → memoryBy y ≡ memory
 
   history-one : (y : ServedCall) (ys : List ServedCall) → Made y → (isListed (y .left .answer) ≡ true → memoryBy y ≡ memory)
@@ -224,7 +224,7 @@ module _ (memory : List ℕ) where
       let q = b (rw e) in
       rw (e, q) (made (rw q at (exchange-called y o e)) rest)
 
-  history : (ys : List ServedCall) → ((y : ServedCall) → y ∈ ys → Made y) → Brings ys → History Leaves memory zeros (exchangesOf ys)
+  pub history : (ys : List ServedCall) → ((y : ServedCall) → y ∈ ys → Made y) → Brings ys → History Leaves memory zeros (exchangesOf ys)
   unfolding flatMap
   history [] h b = over
   history (y ∷ ys) h b =
@@ -248,11 +248,11 @@ module _ (memory : List ℕ) where
     of-listed (y ∷ ys) h x n = of-one y ys x (h y (here refl)) (of-listed ys (λ z i. h z (there i)) x) (y .left .answer) refl n
 
   module _ (ys : List ServedCall) (h : (y : ServedCall) → y ∈ ys → Made y) (b : Brings ys) where
-    all-accepted : keep isAccepted (exchangesOf ys) ≡ exchangesOf ys
+    pub all-accepted : keep isAccepted (exchangesOf ys) ≡ exchangesOf ys
     unfolding isPage
     all-accepted = keep-all isAccepted (exchangesOf ys) (of-listed (λ (x : Exchange). isAccepted x ≡ true) ys (λ y n k m e. refl))
 
-    all-lent : (x : Exchange) → x ∈ exchangesOf ys → Lent memory zeros (x .call)
+    pub all-lent : (x : Exchange) → x ∈ exchangesOf ys → Lent memory zeros (x .call)
     unfolding isListed
     all-lent =
         of-listed (λ (x : Exchange). Lent memory zeros (x .call)) ys

@@ -6,8 +6,7 @@ use native.Mathlib.Omega.{arith}
 use denote.Ref.{now}
 use Rattle.riscu.specs.Limits.{codeWords}
 use Rattle.jobs.specs.Job.{codeCount, codeAt, codeIn}
-use Rattle.blocks.proofs.Copied.{Copying, copy-begin, copy-turn, copy-done}
-use Rattle.jobs.proofs.Copied.{copied-over}
+use Rattle.jobs.proofs.Copied.{Copying, copy-begin, copy-turn, copy-done, copied-over}
 use Rattle.jobs.proofs.reading.code_in.Statement.{statement}
 use Rattle.jobs.proofs.reading.code_in.Tie as tie
 

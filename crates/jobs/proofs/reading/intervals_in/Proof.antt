@@ -6,8 +6,7 @@ use native.Mathlib.Omega.{arith}
 use denote.Ref.{now}
 use Rattle.blocks.specs.Record.{mostInputs}
 use Rattle.jobs.specs.Job.{inputCount, intervalAt, intervalsIn}
-use Rattle.blocks.proofs.Copied.{Copying, copy-begin, copy-turn, copy-done}
-use Rattle.jobs.proofs.Copied.{copied-over}
+use Rattle.jobs.proofs.Copied.{Copying, copy-begin, copy-turn, copy-done, copied-over}
 use Rattle.jobs.proofs.reading.intervals_in.Statement.{statement}
 use Rattle.jobs.proofs.reading.intervals_in.Tie as tie
 

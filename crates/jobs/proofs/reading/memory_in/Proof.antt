@@ -6,8 +6,7 @@ use native.Mathlib.Omega.{arith}
 use denote.Ref.{now}
 use Rattle.riscu.specs.Limits.{memoryWords}
 use Rattle.jobs.specs.Job.{givenCount, payloadAt, blocksFor, firstCode, memoryAt, memoryIn}
-use Rattle.blocks.proofs.Copied.{Copying, copy-begin, copy-turn, copy-done}
-use Rattle.jobs.proofs.Copied.{copied-zeros}
+use Rattle.jobs.proofs.Copied.{Copying, copy-begin, copy-turn, copy-done, copied-zeros}
 use Rattle.jobs.proofs.reading.memory_in.Statement.{statement}
 use Rattle.jobs.proofs.reading.memory_in.Tie as tie
 

@@ -9,7 +9,7 @@ use Rattle.blocks.specs.Block.{each}
 use Rattle.blocks.specs.Report.{recordAt}
 use Rattle.blocks.proofs.Each.{each-begin, each-end, each-stop, each-go}
 use Rattle.reports.specs.Placing.{rowAt, between, holds}
-use Rattle.reports.proofs.Records.{row-inside, row-value}
+use Rattle.reports.proofs.Records.{row-inside, between-read}
 use Rattle.reports.proofs.placing.record_holds.Statement.{statement}
 use Rattle.reports.proofs.placing.record_holds.Tie as tie
 
@@ -28,17 +28,15 @@ returns : tie.Need-returns Inv-loop μ-loop
 returns c =
     let l = c .before .before .before .before .before .loop in
     let a = c .before .before .before .before .before .before .before .before .args in
-    sym (l .inv .1 ∙ each-stop _ (l .i) _ (omega arith)
-    (rw (row-value (a .inputs) (now (a .rows)) (a .j) (l .i) (omega arith), sym (c .before .before .input-low .ensures), sym (c .before .input-high .ensures)) (not-true _ (c .if1 .taken))))
+    let tested = between-read (a .inputs) (now (a .rows)) (a .j) _ (l .i) (omega arith) (c .before .before .input-low .ensures) (c .before .input-high .ensures) in
+    sym (l .inv .1 ∙ each-stop _ (l .i) _ (omega arith) (tested ∙ not-true _ (c .if1 .taken)))
 
 loop-again : tie.Need-loop-again Inv-loop μ-loop
 loop-again c =
     let l = c .before .before .before .before .before .loop in
-    let a = c .before .before .before .before .before .before .before .before .args in (
-      omega arith,
-      l .inv .1 ∙ each-go _ (l .i) _ (omega arith)
-          (rw (row-value (a .inputs) (now (a .rows)) (a .j) (l .i) (omega arith), sym (c .before .before .input-low .ensures), sym (c .before .input-high .ensures)) (not-false _ (c .if1 .left))),
-    )
+    let a = c .before .before .before .before .before .before .before .before .args in
+    let tested = between-read (a .inputs) (now (a .rows)) (a .j) _ (l .i) (omega arith) (c .before .before .input-low .ensures) (c .before .input-high .ensures) in
+    (omega arith, l .inv .1 ∙ each-go _ (l .i) _ (omega arith) (tested ∙ not-false _ (c .if1 .left)))
 
 returns-2 : tie.Need-returns-2 Inv-loop μ-loop
 returns-2 c = sym (c .before .loop .inv .1 ∙ each-end _ (c .before .loop .i) _ (omega arith))
