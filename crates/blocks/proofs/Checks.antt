@@ -9,7 +9,7 @@ use lib.ListN.{length, length-append}
 use lib.Seq.{drop-append-add}
 use Rattle.boxes.specs.Boxes.{_∈_}
 use Rattle.listing.specs.Listing.{Path}
-use Rattle.blocks.specs.Block.{blockBytes, payloadWords, block, agrees, blockCount, each, blockAgrees, checksAgree}
+use Rattle.blocks.specs.Block.{blockBytes, payloadWords, block, blockCount, each, blockAgrees, checksAgree}
 use Rattle.blocks.specs.Record.{firstWords, secondWords, recordOf, records}
 use Rattle.blocks.proofs.Bytes.{block-length}
 use Rattle.blocks.proofs.Reading.{Words, Fits, front-agrees, first-few, second-few}
