@@ -8,11 +8,17 @@ use formats::numbers::NO_PATH;
 use formats::report::{self, Record};
 use formats::rows;
 
+/// A stored report does not say whether the listing goes on after it.
+const OTHER_PAGES: &str =
+    "a row in no path of this report may be in one on another page of its listing";
+
 /// The paths that rows are placed in, as the library is lent them.
 #[derive(Debug, PartialEq, Eq)]
 struct Paths {
     inputs: usize,
     report: Vec<u8>,
+    /// Are they known to be a whole listing?
+    whole: bool,
 }
 
 pub fn place(rule: &str, rows: &str) -> Result<Output> {
@@ -20,7 +26,7 @@ pub fn place(rule: &str, rows: &str) -> Result<Output> {
     let paths = read_paths(rule)?;
     let records = read_records(rule, &paths)?;
     let rows = rows::read(&text, paths.inputs).map_err(|faults| line_faults(rows, &faults))?;
-    placed(&paths, &records, &rows).map(output)
+    placed(rule, &paths, &records, &rows)
 }
 
 // ---------------------------------------------------------------------------------------------
@@ -45,7 +51,7 @@ fn whole_listing(name: &str, job: &Job, most: usize) -> Result<Paths> {
         return Err(fault(name, format!("the rule has more than {most} paths; narrow its inputs")));
     }
     report.truncate(reply.count as usize * path_bytes(inputs));
-    Ok(Paths { inputs, report })
+    Ok(Paths { inputs, report, whole: true })
 }
 
 fn read_report(name: &str) -> Result<Paths> {
@@ -65,7 +71,7 @@ fn stored_paths(name: &str, bytes: &[u8]) -> Result<Paths> {
             "the report has no path, so it does not say how many values a row has",
         ));
     }
-    Ok(Paths { inputs: report::inputs_of(report), report: report.to_vec() })
+    Ok(Paths { inputs: report::inputs_of(report), report: report.to_vec(), whole: false })
 }
 
 /// The library is asked about the report alone first: the rows are read by its input count.
@@ -77,13 +83,19 @@ fn read_records(name: &str, paths: &Paths) -> Result<Vec<Record>> {
 // ---------------------------------------------------------------------------------------------
 // The rows.
 
-/// A line for each row.
-fn placed(paths: &Paths, records: &[Record], rows: &[Vec<u64>]) -> Result<String> {
-    let mut text = String::new();
+/// A line for each row; and a note where a path that the report does not have may hold a row.
+fn placed(name: &str, paths: &Paths, records: &[Record], rows: &[Vec<u64>]) -> Result<Output> {
+    let (mut text, mut in_none) = (String::new(), false);
     for ((row, answer), number) in rows.iter().zip(answers(paths, rows)?).zip(1..) {
-        text += &line(number, row, record_of(answer, row, records)?);
+        let record = record_of(answer, row, records)?;
+        text += &line(number, row, record);
+        in_none |= record.is_none();
     }
-    Ok(text)
+    let note = match in_none && !paths.whole {
+        true => format!("{name}: {OTHER_PAGES}\n"),
+        false => String::new(),
+    };
+    Ok(Output { note, ..output(text) })
 }
 
 /// A call takes so many rows and no more; a row's answer does not depend on the others.
@@ -130,7 +142,7 @@ mod tests {
         let output = paths.and_then(|paths| {
             let records = read_records("rule", &paths)?;
             let rows = rows::read(text, paths.inputs).expect("rows without faults");
-            placed(&paths, &records, &rows).map(output)
+            placed("rule", &paths, &records, &rows)
         });
         let Output { out, note, .. } = output.unwrap_or_else(stopped);
         String::from_utf8(out).unwrap() + &note
@@ -166,7 +178,16 @@ mod tests {
         assert_eq!(by_job(&job_a(), text), lines);
         assert_eq!(by_job(&Job { first: 1, ..job_a() }, text), lines);
         let (page, _) = explore_page(&job_a(), 64, 0).unwrap();
-        assert_eq!(by_report(&[page], text), lines);
+        assert_eq!(by_report(&[page], text), format!("{lines}rule: {OTHER_PAGES}\n"));
+    }
+
+    #[test]
+    fn a_report_may_be_a_page_of_a_longer_listing() {
+        let (page, _) = explore_page(&job_a(), 1, 1).unwrap();
+        let lines = "row 1 (10): path 1, exit with 0\n";
+        assert_eq!(by_report(&[page.clone()], "10"), lines);
+        let lines = format!("row 1 (9): in no path\nrule: {OTHER_PAGES}\n");
+        assert_eq!(by_report(&[page], "9"), lines);
     }
 
     #[test]
@@ -204,7 +225,8 @@ mod tests {
                      row 3 (30): path 7, exit with 4\n\
                      row 4 (60): path 18446744073709551615, exit with 5\n\
                      row 5 (51): in no path\n";
-        assert_eq!(by_report(&records, "5\n4\n30\n60\n51"), lines);
+        let said = by_report(&records, "5\n4\n30\n60\n51");
+        assert_eq!(said, format!("{lines}rule: {OTHER_PAGES}\n"));
     }
 
     #[test]
