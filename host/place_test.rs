@@ -122,10 +122,11 @@ struct Tally {
     repaired: [u64; 2],
     counts: [u64; 3],
     lengths: [u64; 2],
+    long: [u64; 2],
 }
 
 impl Tally {
-    fn lines(&self) -> [(&str, &[u64]); 11] {
+    fn lines(&self) -> [(&str, &[u64]); 12] {
         [
             ("calls answered by 0, 12 and 13", &self.numbers),
             ("own reports of several paths, with 1 to 8 inputs", &self.own_reports),
@@ -138,6 +139,7 @@ impl Tally {
             ("changed and with a right check: word 4, any other", &self.repaired),
             ("input counts with no record, their own, another's", &self.counts),
             ("lengths of rows and answers, with a good and a bad report", &self.lengths),
+            ("long reports accepted and refused", &self.long),
         ]
     }
 
@@ -641,6 +643,27 @@ impl Run {
     }
 }
 
+// ---------------------------------------------------------------------------------------------
+// Long reports.
+
+impl Run {
+    /// One record more than a byte or two of them count; path 3k is the box k..k.
+    fn long_reports(&mut self) {
+        for count in [(1 << 8) + 1, (1 << 16) + 1] {
+            let path = |place| record(&mut self.random, 1, 3 * place, &[(place, place)]);
+            let mut report = report_of(&(0..count).map(path).collect::<Vec<_>>());
+            let rows = [0, count - 3, count - 2, count - 1, count];
+            let answers = rows.map(|row| if row < count { 3 * row } else { NO_PATH });
+            self.expect_answers("a long report", &call(1, &report, &rows), &answers);
+            self.tally.long[0] += 1;
+            let last_bit = 8 * report.len() - 1;
+            flip(&mut report, last_bit);
+            self.expect("a long report's last check", &call(1, &report, &rows), BAD_RECORDS);
+            self.tally.long[1] += 1;
+        }
+    }
+}
+
 fn seed() -> u64 {
     let arguments: Vec<String> = std::env::args().skip(1).collect();
     let seed = match &arguments[..] {
@@ -662,6 +685,7 @@ fn main() {
     run.damaged_reports();
     run.input_counts();
     run.lengths();
+    run.long_reports();
     run.tally.print();
     let unseen = !run.tally.is_complete();
     if unseen {

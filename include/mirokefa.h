@@ -156,7 +156,7 @@ struct mirokefa_outcome mirokefa_serve(const uint8_t *job, size_t job_bytes, uin
  *            with 0 bytes it has no path. Read only.
  * rows       the values of the rows, one row behind the other. Read only.
  * answers    a word for each row: the number (word 0) of the first path in the report whose intervals hold the row, or
- *            MIROKEFA_NO_PATH. It overlaps nothing else lent. */
+ *            MIROKEFA_NO_PATH; none of our own paths is numbered so. It overlaps nothing else lent. */
 uint64_t mirokefa_place(
     uint64_t inputs,
     const uint8_t *report, size_t report_bytes,

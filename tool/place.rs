@@ -8,16 +8,12 @@ use formats::numbers::NO_PATH;
 use formats::report::{self, Record};
 use formats::rows;
 
-/// A stored report does not say whether the listing goes on after it.
-const OTHER_PAGES: &str =
-    "a row in no path of this report may be in one on another page of its listing";
-
 /// The paths that rows are placed in, as the library is lent them.
 #[derive(Debug, PartialEq, Eq)]
 struct Paths {
     inputs: usize,
     report: Vec<u8>,
-    /// Are they known to be a whole listing?
+    /// A stored report does not say whether its listing has other pages.
     whole: bool,
 }
 
@@ -26,7 +22,7 @@ pub fn place(rule: &str, rows: &str) -> Result<Output> {
     let paths = read_paths(rule)?;
     let records = read_records(rule, &paths)?;
     let rows = rows::read(&text, paths.inputs).map_err(|faults| line_faults(rows, &faults))?;
-    placed(rule, &paths, &records, &rows)
+    placed(&paths, &records, &rows).map(output)
 }
 
 // ---------------------------------------------------------------------------------------------
@@ -83,19 +79,15 @@ fn read_records(name: &str, paths: &Paths) -> Result<Vec<Record>> {
 // ---------------------------------------------------------------------------------------------
 // The rows.
 
-/// A line for each row; and a note where a path that the report does not have may hold a row.
-fn placed(name: &str, paths: &Paths, records: &[Record], rows: &[Vec<u64>]) -> Result<Output> {
-    let (mut text, mut in_none) = (String::new(), false);
+/// A line for each row.
+fn placed(paths: &Paths, records: &[Record], rows: &[Vec<u64>]) -> Result<String> {
+    let mut text = String::new();
     for ((row, answer), number) in rows.iter().zip(answers(paths, rows)?).zip(1..) {
-        let record = record_of(answer, row, records)?;
-        text += &line(number, row, record);
-        in_none |= record.is_none();
+        let path = path_text(record_of(answer, row, records)?, paths.whole);
+        let values: Vec<String> = row.iter().map(u64::to_string).collect();
+        text += &format!("row {number} ({}): {path}\n", values.join(", "));
     }
-    let note = match in_none && !paths.whole {
-        true => format!("{name}: {OTHER_PAGES}\n"),
-        false => String::new(),
-    };
-    Ok(Output { note, ..output(text) })
+    Ok(text)
 }
 
 /// A call takes so many rows and no more; a row's answer does not depend on the others.
@@ -119,13 +111,12 @@ fn record_of<'a>(answer: u64, row: &[u64], records: &'a [Record]) -> Result<Opti
     }
 }
 
-fn line(number: usize, row: &[u64], record: Option<&Record>) -> String {
-    let values: Vec<String> = row.iter().map(u64::to_string).collect();
-    let path = match record {
+fn path_text(record: Option<&Record>, whole: bool) -> String {
+    match record {
         Some(record) => format!("path {}, {}", record.number, report::end_text(record)),
-        None => "in no path".to_string(),
-    };
-    format!("row {number} ({}): {path}\n", values.join(", "))
+        None if whole => "in no path".to_string(),
+        None => "in no path of this report".to_string(),
+    }
 }
 
 #[cfg(test)]
@@ -142,7 +133,7 @@ mod tests {
         let output = paths.and_then(|paths| {
             let records = read_records("rule", &paths)?;
             let rows = rows::read(text, paths.inputs).expect("rows without faults");
-            placed("rule", &paths, &records, &rows)
+            placed(&paths, &records, &rows).map(output)
         });
         let Output { out, note, .. } = output.unwrap_or_else(stopped);
         String::from_utf8(out).unwrap() + &note
@@ -178,16 +169,15 @@ mod tests {
         assert_eq!(by_job(&job_a(), text), lines);
         assert_eq!(by_job(&Job { first: 1, ..job_a() }, text), lines);
         let (page, _) = explore_page(&job_a(), 64, 0).unwrap();
-        assert_eq!(by_report(&[page], text), format!("{lines}rule: {OTHER_PAGES}\n"));
+        let by_report = by_report(&[page], text);
+        assert_eq!(by_report, lines.replace("in no path", "in no path of this report"));
     }
 
     #[test]
     fn a_report_may_be_a_page_of_a_longer_listing() {
         let (page, _) = explore_page(&job_a(), 1, 1).unwrap();
-        let lines = "row 1 (10): path 1, exit with 0\n";
-        assert_eq!(by_report(&[page.clone()], "10"), lines);
-        let lines = format!("row 1 (9): in no path\nrule: {OTHER_PAGES}\n");
-        assert_eq!(by_report(&[page], "9"), lines);
+        let lines = "row 1 (9): in no path of this report\nrow 2 (10): path 1, exit with 0\n";
+        assert_eq!(by_report(&[page], "9\n10"), lines);
     }
 
     #[test]
@@ -224,9 +214,8 @@ mod tests {
                      row 2 (4): path 3, exit with 2 to 3\n\
                      row 3 (30): path 7, exit with 4\n\
                      row 4 (60): path 18446744073709551615, exit with 5\n\
-                     row 5 (51): in no path\n";
-        let said = by_report(&records, "5\n4\n30\n60\n51");
-        assert_eq!(said, format!("{lines}rule: {OTHER_PAGES}\n"));
+                     row 5 (51): in no path of this report\n";
+        assert_eq!(by_report(&records, "5\n4\n30\n60\n51"), lines);
     }
 
     #[test]

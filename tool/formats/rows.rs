@@ -9,7 +9,7 @@ pub fn read(text: &str, inputs: usize) -> Result<Vec<Vec<u64>>, Vec<Fault>> {
     let text = text.strip_prefix('\u{FEFF}').unwrap_or(text);
     let mut lines = filled_lines(text).peekable();
     if let Some((line, header)) = lines.next_if(|&(_, text)| is_header(text, inputs)) {
-        let message = count_fault("header", "name", names(header, inputs).len(), inputs);
+        let message = count_fault(header, "header", "name", names(header, inputs).len(), inputs);
         faults.extend(message.map(|message| Fault { line, message }));
     }
     for (line, text) in lines {
@@ -41,9 +41,12 @@ fn filled_lines(text: &str) -> impl Iterator<Item = (usize, &str)> {
     numbered.filter(|(_, text)| !text.is_empty())
 }
 
-fn count_fault(what: &str, part: &str, count: usize, inputs: usize) -> Option<String> {
+fn count_fault(text: &str, what: &str, part: &str, count: usize, inputs: usize) -> Option<String> {
     let (parts, wanted) = (counted(count, part), counted(inputs, "input"));
-    (count != inputs).then(|| format!("the {what} has {parts}, and the rule has {wanted}"))
+    // spreadsheets of many countries write them
+    let semicolons = "; commas or blanks separate them, and semicolons do not";
+    let hint = if text.contains(';') { semicolons } else { "" };
+    (count != inputs).then(|| format!("the {what} has {parts}, and the rule has {wanted}{hint}"))
 }
 
 fn counted(count: usize, what: &str) -> String {
@@ -83,7 +86,7 @@ fn row(text: &str, inputs: usize) -> Result<Vec<u64>, Vec<String>> {
     if let Some(message) = missing_fault(&fields) {
         return Err(vec![message]);
     }
-    if let Some(message) = count_fault("row", "value", fields.len(), inputs) {
+    if let Some(message) = count_fault(text, "row", "value", fields.len(), inputs) {
         return Err(vec![message]);
     }
     let (mut values, mut faults) = (Vec::new(), Vec::new());
@@ -186,7 +189,9 @@ mod tests {
             faults("a,b,c\n1,2", 2),
             ["1: the header has 3 names, and the rule has 2 inputs"]
         );
-        assert_eq!(faults("a;b\n1,2", 2), ["1: the header has 1 name, and the rule has 2 inputs"]);
+        let hint =
+            "and the rule has 2 inputs; commas or blanks separate them, and semicolons do not";
+        assert_eq!(faults("a;b\n1,2", 2), [format!("1: the header has 1 name, {hint}")]);
         assert_eq!(faults("1,2\na,b", 2).len(), 2);
         assert_eq!(rows("haul time\n5\n", 1), [[5]]);
         assert_eq!(faults("a,b\n5", 1), ["1: the header has 2 names, and the rule has 1 input"]);
@@ -233,6 +238,9 @@ mod tests {
         assert_eq!(fault("1 2"), "the row has 2 values, and the rule has 3 inputs");
         assert_eq!(fault("1,2,3,x"), "the row has 4 values, and the rule has 3 inputs");
         assert_eq!(faults("1 2", 1), ["1: the row has 2 values, and the rule has 1 input"]);
+        let hint =
+            "and the rule has 3 inputs; commas or blanks separate them, and semicolons do not";
+        assert_eq!(fault("1;2;3"), format!("the row has 1 value, {hint}"));
     }
 
     #[test]
