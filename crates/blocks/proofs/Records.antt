@@ -2,8 +2,8 @@
 -- Assumes nothing.
 use mathlib.Core.Path.{_≡_, sym, ap, _∙_}
 use mathlib.Core.List.{List, _++_}
-use Prim.Native.Nat.{ℕ, suc, _+_, _*_, _<_, _≤_}
-use native.Mathlib.Nat.{div-mul-le-self}
+use Prim.Native.Nat.{ℕ, suc, _+_, _*_, _/_, _<_, _≤_}
+use native.Mathlib.Nat.{mul-suc, mul-le-mul-left, mul-div-le}
 use native.Mathlib.Omega.{arith}
 use lib.ListN.{length, take, drop, length-drop, take-append-drop}
 use lib.Seq.{length-take-le, take-at, drop-append-add}
@@ -12,9 +12,12 @@ use Rattle.blocks.specs.Record.{recordBytes}
 use Rattle.blocks.specs.Report.{recordsIn, recordAt}
 use Rattle.blocks.proofs.Bytes.{word-from, word-left}
 
--- a record that a report holds lies inside it
+-- of the whole parts of one size that a list has, each lies inside it
+pub part-inside : (size : ℕ) (l : List ℕ) (k : ℕ) → k < length l / size → size * k + size ≤ length l
+part-inside size l k h = omega (arith, mul-suc size k, mul-le-mul-left {m = suc k} {n = length l / size} size h, mul-div-le (length l) size)
+
 pub record-inside : (n : ℕ) (report : List ℕ) (k : ℕ) → k < recordsIn n report → recordBytes n * k + recordBytes n ≤ length report
-record-inside n report k h = omega (arith, div-mul-le-self (length report) (recordBytes n))
+record-inside n = part-inside (recordBytes n)
 
 pub record-read : (n : ℕ) (report : List ℕ) (k p : ℕ) → k < recordsIn n report → p < blockWords
     → wordAt (drop (recordBytes n * k + p * wordBytes) report) 0 ≡ wordAt (recordAt n report k) p

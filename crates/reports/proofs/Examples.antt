@@ -2,7 +2,7 @@
 -- Assumes nothing.
 use mathlib.Core.Path.{_≡_, refl}
 use mathlib.Core.List.{List, [], _∷_, _++_, flatMap}
-use Prim.Native.Nat.{ℕ, _+_, _-_}
+use Prim.Native.Nat.{ℕ}
 use lib.ListN.{set, drop, replicate}
 use Rattle.boxes.specs.Boxes.{Interval, _⋯_, from, every}
 use Rattle.listing.specs.Listing.{Path}
@@ -85,6 +85,10 @@ refused =
     ∷ answer 1 (set overlapping 300 1) (0 ∷ 1 ∷ []) 1
     ∷ []
 
-rows-refused : refused ≡ (12 ∷ []) ∷ (12 ∷ []) ∷ (12 ∷ 5 ∷ []) ∷ (12 ∷ 5 ∷ []) ∷ (12 ∷ 5 ∷ []) ∷ (12 ∷ 5 ∷ []) ∷ (12 ∷ 5 ∷ []) ∷ (13 ∷ 5 ∷ []) ∷ (13 ∷ []) ∷ (13 ∷ 5 ∷ []) ∷ (13 ∷ 5 ∷ []) ∷ (12 ∷ 5 ∷ []) ∷ []
+rows-refused : refused
+    ≡ (12 ∷ []) ∷ (12 ∷ []) ∷ (12 ∷ 5 ∷ []) ∷ (12 ∷ 5 ∷ []) ∷ (12 ∷ 5 ∷ []) ∷ (12 ∷ 5 ∷ []) ∷ (12 ∷ 5 ∷ [])
+    ∷ (13 ∷ 5 ∷ []) ∷ (13 ∷ []) ∷ (13 ∷ 5 ∷ []) ∷ (13 ∷ 5 ∷ [])
+    ∷ (12 ∷ 5 ∷ [])
+    ∷ []
 unfolding refused answer placed placedBy placeAsks firstNo readable placing holds every each checksAgree checkFrom numberOf bytesOf block from flatMap
 rows-refused = refl

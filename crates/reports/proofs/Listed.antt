@@ -1,6 +1,6 @@
 -- The first listed wins: a row's placing is the number of the first record that holds it, and MAX if none does.
 -- Assumes nothing.
-use mathlib.Core.Path.{_≡_, sym, ap, _∙_}
+use mathlib.Core.Path.{_≡_, ap, _∙_}
 use mathlib.Core.Logic.{_⊎_, inl, inr, ⊎-elim}
 use mathlib.Core.Bool.{Bool, false}
 use mathlib.Core.List.{List, map}
@@ -27,12 +27,9 @@ module _ (n : ℕ) (report row : List ℕ) where
   abbrev rest : ℕ → ℕ
   rest k = placing n (map (recordAt n report) (from k (count - k))) row
 
-  whole : rest 0 ≡ placing n (recordsOf n report) row
-  whole = rw sub-zero
-
   -- the records before k do not hold the row
   past : (k : ℕ) → k ≤ count → ((i : ℕ) → i < k → held i ≡ false) → placing n (recordsOf n report) row ≡ rest k
-  past zero l h = sym whole
+  past zero l h = rw sub-zero
   past (suc k) l h =
       let e : k + 1 ≡ suc k = omega arith in
       past k (omega arith) (λ i m. h i (omega arith))

@@ -2,32 +2,31 @@
 -- Assumes nothing.
 use mathlib.Core.Path.{_≡_, refl, sym, _∙_}
 use mathlib.Core.Bool.{true, false, and-eq-true-iff}
-use mathlib.Core.List.{List, [], _∷_, append-nil, flatMap}
-use Prim.Native.Nat.{ℕ, _+_, _-_, _*_, _%_, _^_, _≤_, _<_}
+use mathlib.Core.Logic.{⊎-elim}
+use mathlib.Core.List.{List, [], _∷_, append-nil, flatMap, List·Memᴰ·not-nil, List·Memᴰ·cases-cons}
+use Prim.Native.Nat.{ℕ, _*_, _%_, _^_, _≤_, _<_}
 use native.Mathlib.Nat.{zero-add}
 use native.Mathlib.Omega.{arith}
-use lib.Dec.{leb}
 use lib.ListN.{length, drop, length-take, length-drop}
 use lib.Seq.{length-take-le}
 use borrow.Author.Tests.{leb-true, le-leb, eq-eqb}
-use Rattle.boxes.specs.Boxes.{Choice, at, every, lows, highs, Inside, keep, _∈_}
+use Rattle.boxes.specs.Boxes.{Choice, every, Inside, keep, _∈_}
 use Rattle.boxes.proofs.Choices.{inside-length, inside-at, at-inside}
 use Rattle.boxes.proofs.Lists.{by-test}
 use Rattle.boxes.proofs.Places.{place-mem, place-exists, place-below}
 use Rattle.listing.specs.Group.{Job}
 use Rattle.listing.specs.Listing.{Path, listing}
 use Rattle.corners.specs.Good.{Sound}
-use Rattle.blocks.specs.Block.{wordAt}
-use Rattle.blocks.specs.Layout as layout
 use Rattle.blocks.specs.Reading.{Tells}
 use Rattle.blocks.specs.Record.{mostInputs, recordBytes, records}
 use Rattle.blocks.specs.Report.{recordsIn, recordAt}
 use Rattle.blocks.proofs.Checks.{checks-records}
 use Rattle.blocks.proofs.Each.{each-all, each-at}
 use Rattle.blocks.proofs.Reading.{Fits, records-length, records-at, record-tells}
+use Rattle.blocks.proofs.Records.{part-inside}
 use Rattle.calls.specs.Call.{Call, inputsOf, written, more, jobOf}
 use Rattle.calls.specs.Complete.{IsPath, Complete}
-use Rattle.calls.specs.Engine.{Engine, Lent, Leaves, Meets, Exchange, History}
+use Rattle.calls.specs.Engine.{Engine, Lent, Leaves, Meets, Exchange, History, over, made}
 use Rattle.calls.specs.Together.{SameJob, last, isAccepted, bytesWritten}
 use Rattle.demands.proofs.Accepted.{path-inputs, paths-fit}
 use Rattle.demands.proofs.Complete.{listing-complete}
@@ -37,12 +36,12 @@ use Rattle.demands.proofs.Histories.{Fair}
 use Rattle.demands.proofs.Joined.{fair-sound, fair-few, fair-counted, fair-limit, pages-some}
 use Rattle.demands.proofs.Words.{path-fits}
 use Rattle.reports.specs.Readable.{recordsOf, hasCount, readable}
-use Rattle.reports.specs.Placing.{rowsIn, rowAt, between, holds, noPath, placing, PlaceCall, placeCallOf, rowsFit, placeAsks, placed}
-use Rattle.reports.specs.Placed.{FirstHolds, OwnReport, OnPath, OwnAnswers}
+use Rattle.reports.specs.Placing.{rowsIn, rowAt, between, holds, noPath, placing, PlaceCall, placeCallOf, placeAsks, placed}
+use Rattle.reports.specs.Placed.{FirstHolds, OwnReport, OnPath, OwnPlaced}
 use Rattle.reports.specs.declared.PlaceRefusal.{PlaceRefusal}
 use Rattle.reports.specs.declared.PlaceRefusal.the-variants.{Records, Rows}
 use Rattle.reports.specs.declared.Placed.the-variants.{Answered}
-use Rattle.reports.proofs.Records.{countAt, counts-each, row-inside}
+use Rattle.reports.proofs.Records.{countAt, counts-each}
 use Rattle.reports.proofs.Listed.{placing-first, placing-none}
 use Rattle.reports.proofs.Promises.{places, row-answer}
 
@@ -96,9 +95,8 @@ module _ (j : Job) (able : Reportable j) where
         (λ k m.
         let z : k < mostInputs = omega (arith, able .few, inputs-are) in
         let b = each-at (between (recordAt n report i) row) n 0 h k (omega arith) (omega (arith, inputs-are)) in
-        let bytes = recordAt n report i in
-        let (low, high) = and-eq-true-iff (leb (wordAt bytes (layout.lows + k)) (at row k)) (leb (at row k) (wordAt bytes (layout.highs + k))) .0 b in
-        (rw (tells .low k z) at (leb-true (wordAt bytes (layout.lows + k)) (at row k) low), rw (tells .high k z) at (leb-true (at row k) (wordAt bytes (layout.highs + k)) high)))
+        let (low, high) = and-eq-true-iff _ _ .0 (rw (tells .low k z, tells .high k z) at b) in
+        (leb-true _ _ low, leb-true _ _ high))
 
     inside-holds : (row : Choice) → Inside row (p .box) → holds n row (recordAt n report i) ≡ true
     unfolding holds
@@ -199,8 +197,7 @@ module _ (E : Engine) (meets : Meets E) {memory table : List ℕ} {xs : List Exc
   pub own-readable : readable (inputsOf c) report ≡ true
   own-readable = rw (report-is, sym counted) (listing-readable j able)
 
-  pub own-placed : (rows answers : List ℕ) → rowsFit (inputsOf c) rows answers ≡ true
-      → OwnAnswers j (inputsOf c) rows (placed (placeCallOf (inputsOf c) report rows answers))
+  pub own-placed : OwnPlaced memory (length table) c report
   own-placed rows answers fit =
       record {
         answered = a;
@@ -228,7 +225,7 @@ module _ (E : Engine) (meets : Meets E) {memory table : List ℕ} {xs : List Exc
       same r = rw (report-is, counted)
 
       row-length : (k : ℕ) → k < rowsIn n rows → length (row k) ≡ n
-      row-length k l = length-take-le n (drop (n * k) rows) (rw length-drop (omega (arith, row-inside n rows k l)))
+      row-length k l = length-take-le n (drop (n * k) rows) (rw length-drop (omega (arith, part-inside n rows k l)))
 
 -- one page that a call wrote from path 0 on, with no further path
 pub one-page : {memory table : List ℕ} (x : Exchange) → Lent memory table (x .call) → Leaves memory table (x .call) (x .left) → isAccepted x ≡ true
@@ -242,3 +239,13 @@ one-page x lent leaves accepted inputs from-0 no-further =
       bytes = sym (append-nil (bytesWritten x));
       size = rw (length-take used (x .left .reply .report)) (omega (arith, demand-2 Leaves leaves-meets lent leaves accepted .size, lent .typed .bytes));
     }
+
+-- so the rows placed in it have their paths
+pub page-placed : {memory table : List ℕ} (x : Exchange) → Lent memory table (x .call) → Leaves memory table (x .call) (x .left) → isAccepted x ≡ true
+    → 1 ≤ inputsOf (x .call) → x .call .first ≡ 0 → more (x .left .reply .answer) ≡ false
+    → OwnPlaced memory (length table) (x .call) (bytesWritten x)
+unfolding keep
+page-placed x lent leaves accepted inputs from-0 no-further =
+    own-placed Leaves leaves-meets {xs = x ∷ []}
+    (λ y m. ⊎-elim (λ e. rw e lent) (λ n. absurd (List·Memᴰ·not-nil n)) (List·Memᴰ·cases-cons m))
+    (made leaves over) (x .call) (bytesWritten x) (rw accepted (one-page x lent leaves accepted inputs from-0 no-further))

@@ -70,7 +70,7 @@ module _ (c : PlaceCall) where
   unfolding placed
   answered-by e = answered-asks (firstNo (placeAsks c) placeQuestions) e
 
-  -- what an accepted call leaves to its writing
+  -- an accepted call has as many inputs as fit, and an answer for each row
   pub answered-fits : placed c .answer ≡ Answered → (c .inputs ≤ mostInputs) × (length (c .answers) ≡ count)
   unfolding placeAsks
   answered-fits e =
@@ -102,9 +102,7 @@ module _ (c : PlaceCall) where
         each-row = λ e k l. rw (row-answer e k l) (row-placed (c .inputs) (c .report) (rowAt (c .inputs) (c .rows) k));
       }
 
--- two accepted calls on one report
-pub same-answers : (c d : PlaceCall) → c .inputs ≡ d .inputs → c .report ≡ d .report → placed c .answer ≡ Answered → placed d .answer ≡ Answered
-    → SameAnswers c d
+pub same-answers : (c d : PlaceCall) → SameAnswers c d
 same-answers c d n r a b i k l m e =
     let same : placing (c .inputs) (recordsOf (c .inputs) (c .report)) (rowAt (c .inputs) (c .rows) i)
     ≡ placing (d .inputs) (recordsOf (d .inputs) (d .report)) (rowAt (d .inputs) (d .rows) k) = rw (e, n, r) in

@@ -4,11 +4,10 @@ use mathlib.Core.Path.{_≡_, refl, ap, _∙_}
 use mathlib.Core.Bool.{Bool, true, false, _&&_, cond}
 use mathlib.Core.List.{List, map, map-map}
 use Prim.Native.Nat.{ℕ, zero, suc, _+_, _-_, _*_, _<_, _≤_}
-use native.Mathlib.Nat.{mul-suc, mul-le-mul-left, mul-div-le}
 use native.Mathlib.Numerals.{add-one}
 use native.Mathlib.Omega.{arith}
 use lib.Dec.{leb}
-use lib.ListN.{length, getD, drop}
+use lib.ListN.{getD, drop}
 use lib.Seq.{getD-take, getD-drop}
 use Rattle.boxes.specs.Boxes.{at, from, every}
 use Rattle.blocks.specs.Block.{wordAt, each}
@@ -48,11 +47,8 @@ module _ (n : ℕ) (f : ℕ → List ℕ) (row : List ℕ) (k e : ℕ) where
   unfolding placing from
   placing-end h = let z : e - k ≡ 0 = omega arith in rw z
 
--- a row lies inside the list, and has the list's values
+-- a row has the list's values
 module _ (n : ℕ) (rows : List ℕ) (k : ℕ) where
-  pub row-inside : k < rowsIn n rows → n * k + n ≤ length rows
-  row-inside h = omega (arith, mul-suc n k, mul-le-mul-left {m = suc k} {n = rowsIn n rows} n h, mul-div-le (length rows) n)
-
   row-value : (i : ℕ) → i < n → at (rowAt n rows k) i ≡ getD rows (n * k + i) 0
   row-value i h = getD-take n (drop (n * k) rows) i 0 h ∙ getD-drop (n * k) rows i 0
 

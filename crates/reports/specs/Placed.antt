@@ -11,13 +11,13 @@ use Rattle.listing.specs.Listing.{Path}
 use Rattle.blocks.specs.Block.{wordAt}
 use Rattle.blocks.specs.Layout as layout
 use Rattle.blocks.specs.Report.{recordsIn, recordAt}
-use Rattle.calls.specs.Call.{Call, inputsOf}
+use Rattle.calls.specs.Call.{Call, inputsOf, jobOf}
 use Rattle.calls.specs.Complete.{IsPath}
 use Rattle.calls.specs.Faithful.{Faithful}
 use Rattle.calls.specs.Engine.{Exchange}
 use Rattle.calls.specs.Refuses.{FirstNo}
 use Rattle.calls.specs.Together.{Pages, bytesWritten}
-use Rattle.reports.specs.Placing.{rowsIn, rowAt, holds, noPath, PlaceCall, PlacedLeft, placeAsks, placeQuestions, placeNumber, placed, answerNumber}
+use Rattle.reports.specs.Placing.{rowsIn, rowAt, holds, noPath, PlaceCall, placeCallOf, PlacedLeft, rowsFit, placeAsks, placeQuestions, placeNumber, placed, answerNumber}
 use Rattle.reports.specs.declared.PlaceRefusal.{PlaceRefusal}
 use Rattle.reports.specs.declared.Placed.{Placed}
 use Rattle.reports.specs.declared.Placed.the-variants.{Refused, Answered}
@@ -59,9 +59,10 @@ pub record Places (c : PlaceCall) (l : PlacedLeft) : Type 0 where
   pub each-row : l .answer ≡ Answered → (k : ℕ) → k < rowsIn (c .inputs) (c .rows)
       → RowPlaced (c .inputs) (c .report) (rowAt (c .inputs) (c .rows) k) (getD (l .answers) k 0)
 
--- a row's answer is the same whatever other rows come with it, and wherever it stands among them
+-- a row's answer is the same whatever other rows come with it, and wherever it stands among them: two accepted calls on one report
 abbrev pub SameAnswers : PlaceCall → PlaceCall → Type 0
-SameAnswers c d = (i k : ℕ) → i < rowsIn (c .inputs) (c .rows) → k < rowsIn (d .inputs) (d .rows)
+SameAnswers c d = c .inputs ≡ d .inputs → c .report ≡ d .report → placed c .answer ≡ Answered → placed d .answer ≡ Answered
+    → (i k : ℕ) → i < rowsIn (c .inputs) (c .rows) → k < rowsIn (d .inputs) (d .rows)
     → rowAt (c .inputs) (c .rows) i ≡ rowAt (d .inputs) (d .rows) k → getD (placed c .answers) i 0 ≡ getD (placed d .answers) k 0
 
 -- the number at the border says all of the answer
@@ -69,9 +70,9 @@ pub record PlacedInNumbers (a : Placed) : Type 0 where
   pub accepted : (answerNumber a ≡ 0) ↔ (a ≡ Answered)
   pub refused : (r : PlaceRefusal) → (answerNumber a ≡ placeNumber r) ↔ (a ≡ Refused r)
 
--- a complete report of our own, of the job of c, which has inputs: the pages that accepted calls wrote, from path 0 on until none remains,
--- joined; one page with no further path is such a report
+-- a complete report of our own: the pages that accepted calls wrote of the job of c, from path 0 on until none remains, joined
 pub record OwnReport (c : Call) (accepted : List Exchange) (report : List ℕ) : Type 0 where
+  -- without inputs there are no rows
   pub inputs : 1 ≤ inputsOf c
   pub pages : Pages c 0 accepted
   pub bytes : report ≡ flatMap bytesWritten accepted
@@ -95,3 +96,8 @@ pub record OwnAnswers (j : Job) (n : ℕ) (rows : List ℕ) (l : PlacedLeft) : T
   pub from-box : (k : ℕ) → k < rowsIn n rows → Inside (rowAt n rows k) (j .box) → OnPath j (rowAt n rows k) (getD (l .answers) k 0)
   -- every other row has MAX
   pub outside : (k : ℕ) → k < rowsIn n rows → (Inside (rowAt n rows k) (j .box) → ⊥) → getD (l .answers) k 0 ≡ noPath
+
+-- in such a report of the job of c, any rows that pass 13 have these answers
+abbrev pub OwnPlaced : List ℕ → ℕ → Call → List ℕ → Type 0
+OwnPlaced memory words c report = (rows answers : List ℕ) → rowsFit (inputsOf c) rows answers ≡ true
+    → OwnAnswers (jobOf memory words c) (inputsOf c) rows (placed (placeCallOf (inputsOf c) report rows answers))

@@ -51,7 +51,7 @@ fn rows_fit(inputs: usize, rows: &[u64], answers: &[u64]) -> bool
     (rows.len() % inputs == 0) & ((n <= MOST_ROWS) & (answers.len() == n))
 }
 
-// What the questions come to.
+// The first no of questions 12 and 13, or that both have the answer yes.
 pub(crate) fn ask_place(inputs: u64, report: &[u8], rows: &[u64], answers: &[u64]) -> Placed
     ensures { λ r. ⌜ r ≡ placedOn inputs report rows answers .answer ⌝ }
 {

@@ -1,12 +1,13 @@
 -- `reports::asking::counts_agree` meets its contract: record by record.
 -- Assumes nothing.
-use mathlib.Core.Path.{_≡_, sym, _∙_}
-use Prim.Native.Nat.{_-_, _≤_}
+use mathlib.Core.Path.{_≡_, sym, ap, _∙_}
+use Prim.Native.Nat.{ℕ, _-_, _≤_}
 use native.Mathlib.Nat.{sub-zero}
 use native.Mathlib.Omega.{arith}
 use borrow.Author.Needs.{needs}
 use borrow.Author.Tests.{eq-eqb, ne-eqb}
 use denote.Ref.{now}
+use lib.Dec.{eqb}
 use Rattle.boxes.specs.Boxes.{every}
 use Rattle.blocks.specs.Block.{each}
 use Rattle.blocks.proofs.Each.{each-end, each-stop, each-go}
@@ -31,13 +32,15 @@ returns : tie.Need-returns Inv-loop μ-loop
 returns c =
     let l = c .before .before .before .loop in
     let a = c .before .before .before .before .before .before .args in
-    sym (l .inv .1 ∙ each-stop (countAt (a .inputs) (now (a .report))) (l .k) _ (omega arith) (rw (sym (c .before .record-word .ensures)) (ne-eqb _ _ (c .if1 .taken))))
+    let read = ap (λ (w : ℕ). eqb w (a .inputs)) (c .before .record-word .ensures) in
+    sym (l .inv .1 ∙ each-stop (countAt (a .inputs) (now (a .report))) (l .k) _ (omega arith) (sym read ∙ (ne-eqb _ _ (c .if1 .taken))))
 
 loop-again : tie.Need-loop-again Inv-loop μ-loop
 loop-again c =
     let l = c .before .before .before .loop in
     let a = c .before .before .before .before .before .before .args in
-    (omega arith, l .inv .1 ∙ each-go (countAt (a .inputs) (now (a .report))) (l .k) _ (omega arith) (rw (sym (c .before .record-word .ensures)) (eq-eqb _ _ (c .if1 .left))))
+    let read = ap (λ (w : ℕ). eqb w (a .inputs)) (c .before .record-word .ensures) in
+    (omega arith, l .inv .1 ∙ each-go (countAt (a .inputs) (now (a .report))) (l .k) _ (omega arith) (sym read ∙ (eq-eqb _ _ (c .if1 .left))))
 
 returns-2 : tie.Need-returns-2 Inv-loop μ-loop
 returns-2 c =

@@ -8,8 +8,9 @@ use denote.Ref.{now}
 use Rattle.blocks.specs.Block.{each}
 use Rattle.blocks.specs.Report.{recordAt}
 use Rattle.blocks.proofs.Each.{each-begin, each-end, each-stop, each-go}
+use Rattle.blocks.proofs.Records.{part-inside}
 use Rattle.reports.specs.Placing.{rowAt, between, holds}
-use Rattle.reports.proofs.Records.{row-inside, between-read}
+use Rattle.reports.proofs.Records.{between-read}
 use Rattle.reports.proofs.placing.record_holds.Statement.{statement}
 use Rattle.reports.proofs.placing.record_holds.Tie as tie
 
@@ -48,10 +49,10 @@ record-holds-spec =
     Inv-loop
     μ-loop
     loop-holds
-    (λ c. let entry = c .before .before .before .before in omega (arith, row-inside (entry .args .inputs) (now (entry .args .rows)) (entry .args .j) (entry .pre .2)))
-    (λ c. let entry = c .before .before .before .before in omega (arith, row-inside (entry .args .inputs) (now (entry .args .rows)) (entry .args .j) (entry .pre .2)))
-    (λ c. let entry = c .before .before .before .before in omega (arith, row-inside (entry .args .inputs) (now (entry .args .rows)) (entry .args .j) (entry .pre .2)))
-    (λ c. let entry = c .before .before .before .before .before in omega (arith, row-inside (entry .args .inputs) (now (entry .args .rows)) (entry .args .j) (entry .pre .2)))
+    (λ c. let entry = c .before .before .before .before in omega (arith, part-inside (entry .args .inputs) (now (entry .args .rows)) (entry .args .j) (entry .pre .2)))
+    (λ c. let entry = c .before .before .before .before in omega (arith, part-inside (entry .args .inputs) (now (entry .args .rows)) (entry .args .j) (entry .pre .2)))
+    (λ c. let entry = c .before .before .before .before in omega (arith, part-inside (entry .args .inputs) (now (entry .args .rows)) (entry .args .j) (entry .pre .2)))
+    (λ c. let entry = c .before .before .before .before .before in omega (arith, part-inside (entry .args .inputs) (now (entry .args .rows)) (entry .args .j) (entry .pre .2)))
     (λ c κs. (c .before .before .before .before .before .pre .0, omega (arith, c .before .before .before .before .before .pre .1)))
     (λ c κs. (c .before .before .before .before .before .before .pre .0, omega (arith, c .before .before .before .before .before .before .pre .1)))
     returns
