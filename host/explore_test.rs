@@ -13,11 +13,11 @@ mod programs;
 
 use formats::blocks::flat;
 use formats::limits::*;
-use formats::numbers::{CALL_REFUSALS, KINDS, REASONS};
+use formats::numbers::{kind_occurs, CALL_REFUSALS, KINDS, REASONS};
 use formats::random::Random;
 use formats::show::code_line;
 use library::Reply;
-use oracle::{Interval, Job, NamedTwice, Path, TWO_OPERANDS};
+use oracle::{Interval, Job, Met, Path, TO_MEET};
 use programs::{input_count, large_box, memory_for, program, small_box};
 use std::collections::BTreeSet;
 
@@ -208,14 +208,14 @@ struct Task {
     job: Job,
     listing: Vec<Path>,
     /// What the brute force came to; none for a large box.
-    met: BTreeSet<NamedTwice>,
+    met: BTreeSet<Met>,
     /// Where the walk through the pages is, with the pages so far; none when it is whole.
     next: Option<u64>,
     joined: Vec<u8>,
 }
 
 impl Task {
-    fn new(job: Job, listing: Vec<Path>, met: BTreeSet<NamedTwice>) -> Task {
+    fn new(job: Job, listing: Vec<Path>, met: BTreeSet<Met>) -> Task {
         Task { job, listing, met, next: Some(0), joined: Vec::new() }
     }
 
@@ -430,8 +430,8 @@ struct Tally {
     kinds: [u64; KINDS as usize + 1],
     reasons: [u64; REASONS as usize + 1],
     refusals: [u64; CALL_REFUSALS as usize + 1],
-    /// Programs that came to a register named twice: fixed, and open.
-    named_twice: [[u64; TWO_OPERANDS.len()]; 2],
+    /// Programs on small boxes that came to each of these: on a fixed value, and on an open one.
+    met: [[u64; TO_MEET.len()]; 2],
     calls: u64,
     forks: u64,
     loops: u64,
@@ -446,7 +446,7 @@ impl Tally {
             self.reasons[path.reason as usize] += 1;
         }
         for met in &task.met {
-            self.named_twice[met.open as usize][met.place] += 1;
+            self.met[met.open as usize][met.place] += 1;
         }
         let paths = || task.listing.iter();
         let words = task.job.code.len() as u64;
@@ -464,18 +464,20 @@ impl Tally {
 
     fn is_complete(&self) -> bool {
         let seen = |counts: &[u64]| counts.iter().all(|&count| count > 0);
-        let numbered = seen(&self.kinds[1..]) && seen(&self.reasons[1..]);
-        numbered && seen(&self.refusals[1..]) && seen(&self.named_twice.concat())
+        // a kind that does not occur must never have been seen
+        let kinds = (1..=KINDS).all(|kind| (self.kinds[kind as usize] > 0) == kind_occurs(kind));
+        let numbered = kinds && seen(&self.reasons[1..]) && seen(&self.refusals[1..]);
+        numbered && seen(&self.met.concat())
     }
 
     fn print(&self) {
         println!("kinds 1 to {KINDS}: {:?}", &self.kinds[1..]);
         println!("reasons 1 to {REASONS}: {:?}", &self.reasons[1..]);
         println!("refusals 1 to {CALL_REFUSALS}: {:?}", &self.refusals[1..]);
-        for (register, counts) in ["a fixed", "an open"].iter().zip(&self.named_twice) {
-            let count = |(name, count)| format!(" {name} {count}");
-            let counts: String = TWO_OPERANDS.iter().zip(counts).map(count).collect();
-            println!("programs with {register} register twice:{counts}");
+        for (operand, counts) in ["a fixed", "an open"].iter().zip(&self.met) {
+            let count = |(name, count)| format!("{name} {count}");
+            let counts: Vec<String> = TO_MEET.iter().zip(counts).map(count).collect();
+            println!("programs with {operand} operand in {}", counts.join(", "));
         }
         println!(
             "{} calls; programs with forks {}, loops {}, stores {}, several inputs {}",
@@ -572,7 +574,7 @@ fn main() {
     tally.print();
     let unseen = count >= ENOUGH_JOBS && !tally.is_complete();
     if unseen {
-        println!("a kind, a reason, a refusal or a register named twice was never seen");
+        println!("one of these was never seen, or a kind that does not occur was");
     }
     println!("{count} jobs, {differ} differ");
     if differ > 0 || unseen {

@@ -5,7 +5,7 @@
 mod oracle;
 
 use formats::assembler::{self, *};
-use formats::numbers::{KINDS, REASONS};
+use formats::numbers::{kind_occurs, KINDS, REASONS};
 use oracle::{Interval, Job, Path};
 use std::fmt::Write;
 
@@ -79,8 +79,6 @@ fn plain_ends() -> Vec<Example> {
     vec![
         reading("exit with an open value", 3, 6, &[addi(10, 5, 0)]),
         example("exit with no inputs", &closing()),
-        reading("DIVU by 0", 3, 6, &[divu(10, 5, 0)]),
-        reading("REMU by 0", 3, 6, &[remu(10, 5, 0)]),
         example("pc runs beyond the code", &[addi(5, 0, 1)]),
         example("JAL to half a word", &[jal(1, 6)]),
         example("JAL below address 0", &[jal(0, -4)]),
@@ -342,12 +340,70 @@ fn other_same_register() -> Vec<Example> {
         reading("REMU of one fixed register twice", 5, 5, &[remu(10, 5, 5)]),
         reading("SLTU of one fixed register twice", 5, 5, &[sltu(10, 5, 5)]),
         reading("BEQ of one fixed register twice", 5, 5, &[beq(5, 5, 8), addi(10, 0, 1)]),
-        reading("DIVU of one register twice that is 0", 0, 0, &[divu(10, 5, 5)]),
         reading("MUL of one register twice where a fork fixed it", 3, 6, &cut),
         reading("ADD of one register twice, a fixed quotient", 4, 7, &quotient),
         reading("SUB of register 0 twice", 3, 6, &[sub(10, 0, 0)]),
         reading("SLTU of register 0 twice", 3, 6, &[sltu(10, 0, 0)]),
         reading("BEQ of register 0 twice", 3, 6, &[beq(0, 0, 8), addi(10, 0, 1)]),
+    ]
+}
+
+/// No. 3 of document 02: both go on, with an open dividend too.
+fn by_zero() -> Vec<Example> {
+    let falling = [sub(6, 0, 5), remu(10, 6, 0)];
+    let into_divisor = [sub(6, 5, 5), remu(6, 5, 6), addi(10, 6, 1)];
+    let where_zero = |word: u32| [beq(5, 0, 8), jal(0, 8), word];
+    let compared = [addi(7, 0, 5), sltu(6, 5, 7), remu(10, 5, 6)];
+    vec![
+        reading("DIVU by register 0", 3, 6, &[divu(10, 5, 0)]),
+        reading("REMU by register 0", 3, 6, &[remu(10, 5, 0)]),
+        reading("DIVU by a register that holds 0", 3, 6, &[divu(10, 5, 6)]),
+        reading("REMU by a register that holds 0", 3, 6, &[remu(10, 5, 6)]),
+        reading("DIVU of a fixed value by 0", 5, 5, &[divu(10, 5, 0)]),
+        reading("REMU of a fixed value by 0", 5, 5, &[remu(10, 5, 0)]),
+        reading("DIVU of register 0 by 0", 3, 6, &[divu(10, 0, 6)]),
+        reading("REMU of register 0 by 0", 3, 6, &[remu(10, 0, 6)]),
+        reading("DIVU of one register twice that is 0", 0, 0, &[divu(10, 5, 5)]),
+        reading("REMU of one register twice that is 0", 0, 0, &[remu(10, 5, 5)]),
+        reading("REMU of the highest values by 0", MAX - 3, MAX, &[remu(10, 5, 0)]),
+        reading("REMU of a falling value by 0", 1, 4, &falling),
+        reading("REMU by 0 into the dividend", 3, 6, &[remu(5, 5, 0), addi(10, 5, 1)]),
+        reading("REMU by 0 into the divisor", 3, 6, &into_divisor),
+        reading("a divisor that BEQ fixed at 0", 0, 2, &where_zero(divu(10, 2, 5))),
+        reading_two("the same, of an open value", (0, 2), (3, 4), &where_zero(remu(10, 7, 5))),
+        reading("a divisor that SLTU fixed at 1 or at 0", 3, 6, &compared),
+        reading("DIVU by a divisor that may be 0", 0, 3, &[divu(10, 2, 5)]),
+    ]
+}
+
+fn by_zero_used() -> Vec<Example> {
+    let less = [remu(7, 5, 0), addi(6, 0, 5), sltu(10, 7, 6)];
+    let equal = [remu(7, 5, 0), addi(6, 0, 5), beq(7, 6, 8), addi(10, 5, 0)];
+    let narrowed = [remu(7, 5, 0), addi(6, 0, 5), sltu(28, 5, 6), addi(10, 7, 0)];
+    vec![
+        reading("REMU by 0, then SLTU", 3, 6, &less),
+        reading("REMU by 0, then BEQ", 3, 6, &equal),
+        reading("REMU by 0, then a sum that wraps", 3, 6, &[remu(7, 5, 0), addi(10, 7, -4)]),
+        reading("REMU by 0, then a cut of its dividend", 3, 6, &narrowed),
+        reading("REMU by 0, then its dividend added", 3, 6, &[remu(7, 5, 0), add(10, 5, 7)]),
+        reading("REMU by 0, then DIVU by it", 3, 6, &[remu(7, 5, 0), divu(10, 5, 7)]),
+        reading("REMU by 0, then LD", 3, 6, &[remu(7, 5, 0), ld(10, 0, 7)]),
+        reading("DIVU by 0, then SLTU", MAX - 2, MAX, &[divu(6, 5, 0), sltu(10, 5, 6)]),
+        reading("DIVU by 0, then ADD", 0, 3, &[divu(6, 5, 0), add(10, 6, 5)]),
+        reading("DIVU by 0, then DIVU by it", 3, 6, &[divu(6, 5, 0), divu(10, 5, 6)]),
+        reading("DIVU by 0, then LD", 3, 6, &[divu(6, 5, 0), ld(10, 0, 6)]),
+        reading("DIVU by 0, then LD from 0", 3, 6, &[divu(6, 5, 0), ld(10, 1, 6)]),
+    ]
+}
+
+fn by_zero_entries() -> Vec<Example> {
+    let zeros = [divu(0, 5, 0), remu(0, 5, 0)];
+    vec![
+        reading("DIVU by 0, no entry left", 3, 6, &[divu(10, 5, 0)]).entries(5),
+        reading("DIVU by 0, one entry left", 3, 6, &[divu(10, 5, 0)]).entries(6),
+        reading("REMU by 0, no entry left", 3, 6, &[remu(10, 5, 0)]).entries(5),
+        reading("REMU by 0, one entry left", 3, 6, &[remu(10, 5, 0)]).entries(6),
+        reading("by 0 into register 0, no entry left", 3, 6, &zeros).entries(5),
     ]
 }
 
@@ -361,7 +417,7 @@ struct Table {
 fn tables() -> Vec<Table> {
     let table = |name, shows, examples| Table { name, shows, examples };
     vec![
-        table("endings", "kinds 1 to 7", plain_ends()),
+        table("endings", "kinds 1 and 3 to 7", plain_ends()),
         table("operands", "reasons 1 to 6", operand_reasons()),
         table("calls", "reason 7", call_reasons()),
         table("sums", "forks where the wrap of a sum or a difference changes", sum_forks()),
@@ -376,29 +432,32 @@ fn tables() -> Vec<Table> {
         table("same-in-loops", "one register twice in loops", same_register_in_loops()),
         table("same-entries", "one register twice and the entries", same_register_entries()),
         table("same-otherwise", "one register twice, as document 01 has it", other_same_register()),
+        table("by-zero", "DIVU and REMU by a fixed 0", by_zero()),
+        table("by-zero-used", "what DIVU and REMU by 0 give, used", by_zero_used()),
+        table("by-zero-entries", "DIVU and REMU by 0 and the entries", by_zero_entries()),
     ]
 }
 
 // ---------------------------------------------------------------------------------------------
 // The antt file.
 
-const END_NAMES: [&str; KINDS as usize] = [
-    "Exit",
-    "DivisionByZero",
-    "BadPc",
-    "BadWord",
-    "BadAddress",
-    "BadCall",
-    "StepLimit",
-    "NotFollowed",
-    "TraceFull",
+/// The case of End for each kind that occurs.
+const END_NAMES: [(u64, &str); 8] = [
+    (oracle::EXITED, "Exit"),
+    (oracle::BAD_PC, "BadPc"),
+    (oracle::BAD_WORD, "BadWord"),
+    (oracle::BAD_ADDRESS, "BadAddress"),
+    (oracle::BAD_CALL, "BadCall"),
+    (oracle::STEP_LIMIT, "StepLimit"),
+    (oracle::NOT_FOLLOWED, "NotFollowed"),
+    (oracle::TRACE_FULL, "TraceFull"),
 ];
 
 const REASON_NAMES: [&str; REASONS as usize] =
     ["BothOpen", "Multiplier", "Divisor", "DivisorOpen", "Quotients", "BaseOpen", "CallOpen"];
 
 fn end_text(kind: u64, reason: u64) -> String {
-    let name = END_NAMES[kind as usize - 1];
+    let (_, name) = END_NAMES.iter().find(|end| end.0 == kind).expect("a kind that occurs");
     if kind == oracle::NOT_FOLLOWED {
         format!("({name} {})", REASON_NAMES[reason as usize - 1])
     } else {
@@ -548,7 +607,7 @@ use Rattle.listing.specs.Listing.{Path, pathOf, splitBy, moveBy, moveFro
 use Rattle.listing.specs.declared.Reason.the-variants.{BothOpen, Multiplier, Divisor, DivisorOpen}
 use Rattle.listing.specs.declared.Reason.the-variants.{Quotients, BaseOpen, CallOpen}
 use Rattle.listing.specs.declared.End.{End}
-use Rattle.listing.specs.declared.End.the-variants.{Exit, DivisionByZero, BadPc, BadWord, BadAddress}
+use Rattle.listing.specs.declared.End.the-variants.{Exit, BadPc, BadWord, BadAddress}
 use Rattle.listing.specs.declared.End.the-variants.{BadCall, StepLimit, NotFollowed, TraceFull}
 
 abbrev top : ℕ
@@ -596,12 +655,13 @@ examples-right = refl
 
 // ---------------------------------------------------------------------------------------------
 
-/// Every kind and every reason is the end of some path.
+/// Every kind that occurs, no other, and every reason is the end of some path.
 fn assert_covered(tables: &[Table]) {
     let examples = tables.iter().flat_map(|table| &table.examples);
     let paths: Vec<Path> = examples.flat_map(|example| oracle::listing(&example.job)).collect();
     for kind in 1..=KINDS {
-        assert!(paths.iter().any(|path| path.kind == kind), "no path of kind {}", kind);
+        let found = paths.iter().any(|path| path.kind == kind);
+        assert!(found == kind_occurs(kind), "paths of kind {}: {}", kind, found);
     }
     for reason in 1..=REASONS {
         assert!(paths.iter().any(|path| path.reason == reason), "no path of reason {}", reason);

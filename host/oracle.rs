@@ -1,4 +1,4 @@
-//! A brute-force oracle for the interval path explorer, after document 01 and Nos. 1 and 2 of
+//! A brute-force oracle for the interval path explorer, after document 01 and Nos. 1 to 3 of
 //! document 02.
 //!
 //! A group holds every choice of its box, each with a plain machine of its own; a value is fixed if
@@ -22,9 +22,8 @@ pub const WORDS_PER_ENTRY: usize = 8;
 const BLOCK_WORDS: usize = 64;
 const BLOCK_BYTES: usize = 512;
 
-// Kinds, as document 01 numbers them.
+// Kinds, as document 01 numbers them; since No. 3 of document 02 no path has kind 2.
 pub const EXITED: u64 = 1;
-pub const DIVISION_BY_ZERO: u64 = 2;
 pub const BAD_PC: u64 = 3;
 pub const BAD_WORD: u64 = 4;
 pub const BAD_ADDRESS: u64 = 5;
@@ -192,7 +191,7 @@ impl Machine {
             Instruction::Lui { rd, imm } => self.write(rd, imm),
             Instruction::Addi { rd, rs1, imm } => self.write(rd, self.offset(rs1, imm)),
             Instruction::Register { operation, rd, rs1, rs2 } => {
-                self.operate(operation, rd, rs1, rs2)
+                self.write(rd, result(operation, self.registers[rs1], self.registers[rs2]))
             }
             Instruction::Ld { rd, rs1, imm } => {
                 self.write(rd, self.memory.load(self.offset(rs1, imm) as usize / 8))
@@ -222,14 +221,6 @@ impl Machine {
         self.pc = target;
     }
 
-    fn operate(&mut self, operation: Operation, rd: usize, rs1: usize, rs2: usize) {
-        // into register 0 nothing is computed: a divisor may be 0 there
-        if rd != 0 {
-            self.registers[rd] = result(operation, self.registers[rs1], self.registers[rs2]);
-        }
-        self.advance();
-    }
-
     fn read(&mut self, inputs: &[u64]) {
         let left = self.reads < inputs.len();
         if left {
@@ -245,8 +236,9 @@ fn result(operation: Operation, a: u64, b: u64) -> u64 {
         Operation::Add => a.wrapping_add(b),
         Operation::Sub => a.wrapping_sub(b),
         Operation::Mul => a.wrapping_mul(b),
-        Operation::Divu => a / b,
-        Operation::Remu => a % b,
+        // No. 3 of document 02: by 0, DIVU gives MAX and REMU the dividend
+        Operation::Divu => a.checked_div(b).unwrap_or(u64::MAX),
+        Operation::Remu => a.checked_rem(b).unwrap_or(a),
         Operation::Sltu => (a < b) as u64,
     }
 }
@@ -272,7 +264,7 @@ pub struct Run {
     pub stop: Option<u64>,
 }
 
-/// At most `steps` instructions for one choice; kinds 1 to 6 stop it before.
+/// At most `steps` instructions for one choice; kinds 1 and 3 to 6 stop it before.
 pub fn run_plain(code: &[u32], memory: &[u64], inputs: &[u64], steps: u64) -> Run {
     let mut run = Run { machine: Machine::start(Memory::new(memory)), steps: 0, stop: None };
     while run.steps < steps {
@@ -321,16 +313,13 @@ fn next_plain(code: &[u32], machine: &Machine) -> Result<Instruction, u64> {
     }
 }
 
-/// Points 5, 6, 7 and 9 of the ending order, for one machine.
+/// Points 5, 6 and 9 of the ending order, for one machine.
 fn plain_stop(machine: &Machine, instruction: Instruction) -> Option<u64> {
     let value = |register: usize| machine.registers[register];
     match instruction {
         Instruction::Ecall => call_stop(value(17), value(10), value(11), value(12)),
         Instruction::Ld { rs1, imm, .. } | Instruction::Sd { rs1, imm, .. } => {
             bad_address(machine.offset(rs1, imm)).then_some(BAD_ADDRESS)
-        }
-        Instruction::Register { operation: Operation::Divu | Operation::Remu, rd, rs2, .. } => {
-            (rd != 0 && value(rs2) == 0).then_some(DIVISION_BY_ZERO)
         }
         _ => None,
     }
@@ -556,10 +545,8 @@ fn division_end(group: &Group, operation: Operation, rs1: usize, rs2: usize) -> 
         return Some((NOT_FOLLOWED, DIVISOR_OPEN));
     }
     let divisor = group.value(rs2);
-    if divisor == 0 {
-        return Some((DIVISION_BY_ZERO, 0));
-    }
-    if group.is_fixed(rs1) {
+    // No. 3 of document 02: a division by 0 goes on, and the dividend may be open
+    if divisor == 0 || group.is_fixed(rs1) {
         return None;
     }
     let (low, high) = group.register(rs1);
@@ -616,7 +603,8 @@ fn operation_class(operation: Operation, a: u64, b: u64) -> u64 {
         Operation::Sub => a.overflowing_sub(b).1 as u64,
         Operation::Mul => high_half(a, b),
         Operation::Divu => 0,
-        Operation::Remu => a / b,
+        // No. 3 of document 02: by 0 there is no quotient, and no fork
+        Operation::Remu => a.checked_div(b).unwrap_or(0),
         Operation::Sltu => (a < b) as u64,
     }
 }
@@ -698,14 +686,14 @@ pub fn listing(job: &Job) -> Vec<Path> {
     listing_and_met(job).0
 }
 
-/// The listing, and what its groups came to that names one register twice.
-pub fn listing_and_met(job: &Job) -> (Vec<Path>, BTreeSet<NamedTwice>) {
+/// The listing, and what its groups came to of `TO_MEET`.
+pub fn listing_and_met(job: &Job) -> (Vec<Path>, BTreeSet<Met>) {
     let (mut ended, mut met) = (Vec::new(), BTreeSet::new());
     // the first waiting group is the last of the vector
     let mut waiting = vec![starting_group(job)];
     while let Some(group) = waiting.pop() {
         let decided = next(job, &group).and_then(|instruction| {
-            met.extend(named_twice(&group, instruction));
+            met.extend(meets(&group, instruction));
             Ok((instruction, decide(job, &group, instruction)?))
         });
         match decided {
@@ -718,26 +706,47 @@ pub fn listing_and_met(job: &Job) -> (Vec<Path>, BTreeSet<NamedTwice>) {
     (ended, met)
 }
 
-/// What can name one register as both operands: the operations in their order, and BEQ.
-pub const TWO_OPERANDS: [&str; 7] = ["ADD", "SUB", "MUL", "DIVU", "REMU", "SLTU", "BEQ"];
+/// What random jobs must come to; the first are the operations in their order.
+pub const TO_MEET: [&str; 9] = [
+    "ADD twice",
+    "SUB twice",
+    "MUL twice",
+    "DIVU twice",
+    "REMU twice",
+    "SLTU twice",
+    "BEQ twice",
+    "DIVU by zero",
+    "REMU by zero",
+];
+const BEQ_TWICE: usize = 6;
+const DIVU_BY_ZERO: usize = 7;
+const REMU_BY_ZERO: usize = 8;
 
-/// One of them, by its place there, and whether the register was open where a group came to it.
+/// One of them, by its place there, and whether the first operand was open.
 #[derive(Clone, Copy, Debug, PartialEq, Eq, PartialOrd, Ord)]
-pub struct NamedTwice {
+pub struct Met {
     pub place: usize,
     pub open: bool,
 }
 
 /// None into register 0, where nothing is asked of the operands.
-fn named_twice(group: &Group, instruction: Instruction) -> Option<NamedTwice> {
-    let (place, register) = match instruction {
-        Instruction::Register { operation, rd, rs1, rs2 } if rd != 0 && rs1 == rs2 => {
-            (operation as usize, rs1)
+fn meets(group: &Group, instruction: Instruction) -> Vec<Met> {
+    let (twice, by_zero, rs1, rs2) = match instruction {
+        Instruction::Beq { rs1, rs2, .. } => (BEQ_TWICE, None, rs1, rs2),
+        Instruction::Register { operation, rd, rs1, rs2 } if rd != 0 => {
+            let by_zero = match operation {
+                Operation::Divu => Some(DIVU_BY_ZERO),
+                Operation::Remu => Some(REMU_BY_ZERO),
+                _ => None,
+            };
+            (operation as usize, by_zero, rs1, rs2)
         }
-        Instruction::Beq { rs1, rs2, .. } if rs1 == rs2 => (TWO_OPERANDS.len() - 1, rs1),
-        _ => return None,
+        _ => return Vec::new(),
     };
-    Some(NamedTwice { place, open: group.is_open(register) })
+    let twice = (rs1 == rs2).then_some(twice);
+    let by_zero = by_zero.filter(|_| group.register(rs2) == (0, 0));
+    let places = twice.into_iter().chain(by_zero);
+    places.map(|place| Met { place, open: group.is_open(rs1) }).collect()
 }
 
 // ---------------------------------------------------------------------------------------------

@@ -1,4 +1,4 @@
-//! Tests of the oracle itself: document 01's rules on trial, Nos. 1 and 2 of document 02, and random
+//! Tests of the oracle itself: document 01's rules on trial, Nos. 1 to 3 of document 02, and random
 //! jobs against runs of its plain machine.
 
 mod listing_check;
@@ -9,7 +9,7 @@ mod programs;
 use formats::assembler::*;
 use formats::blocks::to_bytes;
 use formats::limits::{path_bytes, ENTRY_WORDS, MEMORY_WORDS, PAYLOAD_WORDS, USUAL_TABLE_WORDS};
-use formats::numbers::{KINDS, REASONS};
+use formats::numbers::{kind_occurs, KINDS, REASONS};
 use formats::random::Random;
 use formats::report;
 use oracle::*;
@@ -18,6 +18,7 @@ use std::collections::BTreeSet;
 const MEMORY: [u64; MEMORY_WORDS] = [0; MEMORY_WORDS];
 const RECORD: usize = path_bytes(1);
 const ENTRIES: u64 = (USUAL_TABLE_WORDS / ENTRY_WORDS) as u64;
+const MAX: u64 = u64::MAX;
 
 fn job(code: &[u32], low: u64, high: u64, limit: u64) -> Job {
     let (code, intervals) = (code.to_vec(), vec![(low, high)]);
@@ -193,14 +194,166 @@ fn a_branch_on_a_register_against_itself_goes_back() {
 }
 
 #[test]
+fn a_division_by_0_goes_on() {
+    // register 0, one that holds 0 from the start, and one that is set to 0
+    for divisor in [0, 6, 7] {
+        let work = |divide: fn(u32, u32, u32) -> u32| [sub(7, 5, 5), divide(10, 5, divisor)];
+        assert_eq!(exits(&work(divu), 3, 6), [((3, 6), (MAX, MAX))]);
+        assert_eq!(exits(&work(remu), 3, 6), [((3, 6), (3, 6))]);
+        assert_eq!(exits(&work(divu), 5, 5), [((5, 5), (MAX, MAX))]);
+        assert_eq!(exits(&work(remu), 5, 5), [((5, 5), (5, 5))]);
+    }
+    assert_eq!(exits(&[remu(10, 5, 0)], MAX - 9, MAX), [((MAX - 9, MAX), (MAX - 9, MAX))]);
+    // 10 - v falls, and its remainder with it
+    let falling = [addi(6, 0, 10), sub(6, 6, 5), remu(10, 6, 0)];
+    assert_eq!(exits(&falling, 0, 9), [((0, 9), (1, 10))]);
+}
+
+#[test]
+fn a_division_of_0_by_0() {
+    assert_eq!(exits(&[divu(10, 0, 0)], 3, 6), [((3, 6), (MAX, MAX))]);
+    assert_eq!(exits(&[remu(10, 0, 0)], 3, 6), [((3, 6), (0, 0))]);
+    assert_eq!(exits(&[divu(10, 5, 5)], 0, 0), [((0, 0), (MAX, MAX))]);
+    assert_eq!(exits(&[remu(10, 5, 5)], 0, 0), [((0, 0), (0, 0))]);
+}
+
+#[test]
+fn a_division_by_0_into_register_0_only_advances() {
+    assert_eq!(exits(&[divu(0, 5, 0), remu(0, 5, 0)], 3, 6), [((3, 6), (8, 8))]);
+}
+
+#[test]
+fn a_remainder_by_0_hangs_on_its_input() {
+    let less = [remu(7, 5, 0), addi(6, 0, 5), sltu(10, 7, 6)];
+    assert_eq!(exits(&less, 3, 6), [((3, 4), (1, 1)), ((5, 6), (0, 0))]);
+    let equal = [remu(7, 5, 0), addi(6, 0, 5), beq(7, 6, 8), addi(10, 5, 0)];
+    assert_eq!(exits(&equal, 3, 6), [((3, 4), (3, 4)), ((5, 5), (8, 8)), ((6, 6), (6, 6))]);
+    assert_eq!(
+        exits(&[remu(7, 5, 0), addi(10, 7, -4)], 3, 6),
+        [((3, 3), (MAX, MAX)), ((4, 6), (0, 2))]
+    );
+    let again = [remu(5, 5, 0), addi(6, 0, 5), remu(10, 5, 6)];
+    assert_eq!(exits(&again, 3, 6), [((3, 4), (3, 4)), ((5, 6), (0, 1))]);
+    // a cut of the dividend narrows it, in a register and in memory
+    let narrowed =
+        [remu(7, 5, 0), sd(7, 24, 0), addi(6, 0, 5), sltu(28, 5, 6), ld(7, 24, 0), addi(10, 7, 0)];
+    assert_eq!(exits(&narrowed, 3, 6), [((3, 4), (3, 4)), ((5, 6), (5, 6))]);
+}
+
+#[test]
+fn a_quotient_by_0_is_fixed() {
+    assert_eq!(exits(&[divu(6, 5, 0), sltu(10, 5, 6)], 3, 6), [((3, 6), (1, 1))]);
+    assert_eq!(
+        exits(&[divu(6, 5, 0), sltu(10, 5, 6)], MAX - 2, MAX),
+        [((MAX - 2, MAX - 1), (1, 1)), ((MAX, MAX), (0, 0))]
+    );
+    assert_eq!(
+        exits(&[divu(6, 5, 0), add(10, 6, 5)], 0, 3),
+        [((0, 0), (MAX, MAX)), ((1, 3), (0, 2))]
+    );
+    assert_eq!(exits(&[divu(6, 5, 0), remu(10, 5, 6)], 3, 6), [((3, 6), (3, 6))]);
+    // a base: MAX + 1 is address 0, where the input is
+    assert_eq!(exits(&[divu(6, 5, 0), ld(10, 1, 6)], 3, 6), [((3, 6), (3, 6))]);
+    let base = job(&reads(&[divu(6, 5, 0), ld(10, 0, 6)]), 3, 6, 100);
+    assert_eq!(lines(&base), [(BAD_ADDRESS, 0, 20, 5, (3, 6), (8, 8))]);
+}
+
+#[test]
+fn reasons_after_a_division_by_0() {
+    let words = [
+        ([remu(6, 5, 0), add(10, 5, 6)], BOTH_OPEN),
+        ([divu(6, 5, 0), mul(10, 5, 6)], MULTIPLIER),
+        ([divu(6, 5, 0), divu(10, 5, 6)], DIVISOR),
+        ([remu(6, 5, 0), divu(10, 5, 6)], DIVISOR_OPEN),
+        ([remu(6, 5, 0), ld(10, 0, 6)], BASE_OPEN),
+    ];
+    for (work, reason) in words {
+        let expected = [(NOT_FOLLOWED, reason, 20, 5, (3, 6), (8, 8))];
+        assert_eq!(lines(&job(&reads(&work), 3, 6, 100)), expected);
+    }
+}
+
+#[test]
+fn a_divisor_that_varies_and_may_be_0() {
+    // of a fixed value, and of 0
+    for word in [divu(10, 2, 5), remu(10, 2, 5), divu(10, 0, 5), remu(10, 0, 5)] {
+        let expected = [(NOT_FOLLOWED, DIVISOR_OPEN, 16, 4, (0, 3), (8, 8))];
+        assert_eq!(lines(&job(&reads(&[word]), 0, 3, 100)), expected);
+    }
+}
+
+#[test]
+fn a_divisor_that_a_fork_fixed_at_0() {
+    // where the input is not 0, over the division
+    let work = |word| [beq(5, 0, 8), jal(0, 8), word];
+    assert_eq!(exits(&work(divu(10, 2, 5)), 0, 3), [((0, 0), (MAX, MAX)), ((1, 3), (8, 8))]);
+    assert_eq!(exits(&work(remu(10, 2, 5)), 0, 3), [((0, 0), (4096, 4096)), ((1, 3), (8, 8))]);
+    // register 6 is 1 below 5, where each value is a piece, and 0 from 5 on
+    let compared = [addi(7, 0, 5), sltu(6, 5, 7), remu(10, 5, 6)];
+    let expected = [((3, 3), (0, 0)), ((4, 4), (0, 0)), ((5, 6), (5, 6))];
+    assert_eq!(exits(&compared, 3, 6), expected);
+    // with an open dividend of another input, which is not cut
+    let second = [addi(10, 0, 0), addi(11, 0, 8), ecall(), ld(7, 8, 0)];
+    let code = reads(&[&second[..], &work(remu(10, 7, 5))].concat());
+    let paths = listing(&Job { intervals: vec![(0, 3), (20, 29)], ..job(&code, 0, 3, 100) });
+    let ends: Vec<_> = paths.iter().map(|path| (&path.boxes[..], path.registers[10])).collect();
+    assert_eq!(ends, [(&[(0, 0), (20, 29)][..], (20, 29)), (&[(1, 3), (20, 29)], (8, 8))]);
+}
+
+#[test]
+fn a_division_by_0_takes_an_entry_only_to_write() {
+    let ends = |word, entries| {
+        let job = Job { entries, ..job(&reads(&[word]), 3, 6, 100) };
+        lines(&job)
+    };
+    // the opening has taken 5
+    for (divide, value) in [(divu as fn(_, _, _) -> _, (MAX, MAX)), (remu, (3, 6))] {
+        assert_eq!(ends(divide(10, 5, 0), 5), [(TRACE_FULL, 0, 16, 4, (3, 6), (8, 8))]);
+        assert_eq!(ends(divide(10, 5, 0), 6), [(TRACE_FULL, 0, 20, 5, (3, 6), value)]);
+        assert_eq!(ends(divide(0, 5, 0), 5), [(TRACE_FULL, 0, 20, 5, (3, 6), (8, 8))]);
+    }
+}
+
+#[test]
+fn a_plain_run_divides_by_0() {
+    for (word, value) in [(divu(10, 5, 0), MAX), (remu(10, 5, 0), 77), (remu(0, 5, 0), 8)] {
+        let run = run_plain(&reads(&[word]), &MEMORY, &[77], 100);
+        assert_eq!((run.stop, run.steps, run.machine.registers[10]), (Some(EXITED), 6, value));
+    }
+}
+
+/// The names of what the work on this box meets, and whether the first operand was open.
+fn met(work: &[u32], low: u64, high: u64, limit: u64) -> Vec<(&'static str, bool)> {
+    let (_, met) = listing_and_met(&job(&reads(work), low, high, limit));
+    met.iter().map(|met| (TO_MEET[met.place], met.open)).collect()
+}
+
+#[test]
 fn registers_named_twice_are_met_open_or_fixed() {
     // BEQ cuts 3..6 at 5; ADD into register 0 does not count
     let work = [add(0, 5, 5), sltu(7, 5, 5), addi(6, 0, 5), beq(5, 6, 4), mul(10, 5, 5)];
-    let (_, met) = listing_and_met(&job(&reads(&work), 3, 6, 100));
-    let names: Vec<_> = met.iter().map(|met| (TWO_OPERANDS[met.place], met.open)).collect();
-    assert_eq!(names, [("MUL", false), ("MUL", true), ("SLTU", true)]);
+    let expected = [("MUL twice", false), ("MUL twice", true), ("SLTU twice", true)];
+    assert_eq!(met(&work, 3, 6, 100), expected);
+    assert_eq!(met(&[beq(5, 5, 4)], 3, 6, 100), [("BEQ twice", true)]);
     // the limit comes before the instruction
-    assert!(listing_and_met(&job(&reads(&work), 3, 6, 5)).1.is_empty());
+    assert!(met(&work, 3, 6, 5).is_empty());
+}
+
+#[test]
+fn divisions_by_0_are_met_open_or_fixed() {
+    assert_eq!(
+        met(&[divu(6, 5, 0), remu(6, 0, 7)], 3, 6, 100),
+        [("DIVU by zero", true), ("REMU by zero", false)]
+    );
+    assert_eq!(
+        met(&[remu(6, 5, 0), divu(6, 2, 7)], 3, 6, 100),
+        [("DIVU by zero", false), ("REMU by zero", true)]
+    );
+    assert_eq!(met(&[divu(6, 5, 5)], 0, 0, 100), [("DIVU twice", false), ("DIVU by zero", false)]);
+    // into register 0, by a divisor that varies, by 1, and after the limit
+    assert!(met(&[divu(0, 5, 0), remu(6, 2, 5)], 0, 3, 100).is_empty());
+    assert!(met(&[addi(6, 0, 1), divu(7, 5, 6)], 0, 3, 100).is_empty());
+    assert!(met(&[divu(6, 5, 0)], 3, 6, 4).is_empty());
 }
 
 #[test]
@@ -285,10 +438,11 @@ fn plain_runs_agree_with_their_paths() {
             listing_check::check_choice(&job, owner, &inputs).unwrap();
         }
     }
+    let kinds = (1..=KINDS).filter(|&kind| kind_occurs(kind)).count();
     // one kind has the reasons
-    assert_eq!(ends.len() as u64, KINDS - 1 + REASONS, "{ends:?}");
+    assert_eq!(ends.len(), kinds - 1 + REASONS as usize, "{ends:?}");
     // open, and fixed
-    assert_eq!(all_met.len(), 2 * TWO_OPERANDS.len(), "{all_met:?}");
+    assert_eq!(all_met.len(), 2 * TO_MEET.len(), "{all_met:?}");
 }
 
 #[test]

@@ -100,6 +100,10 @@ pub fn program(random: &mut Random, inputs: usize) -> Vec<u32> {
     for _ in 0..writer.random.pick(&wanted) {
         writer.read();
     }
+    // right after the reads most dividends are open
+    if writer.random.once_in(5) {
+        writer.by_zero();
+    }
     for _ in 0..2 + writer.random.below(12) {
         writer.snippet();
     }
@@ -131,7 +135,7 @@ impl Writer<'_> {
     }
 
     fn snippet(&mut self) {
-        match self.random.below(43) {
+        match self.random.below(49) {
             0..=11 => self.operation(),
             12..=14 => self.immediate(),
             15..=20 => self.skip_unless_less(),
@@ -143,7 +147,8 @@ impl Writer<'_> {
             35 => self.read(),
             36 => self.wild_word(),
             37..=39 => self.oddity(),
-            _ => self.against_itself(),
+            40..=42 => self.against_itself(),
+            _ => self.by_zero(),
         }
     }
 
@@ -185,6 +190,45 @@ impl Writer<'_> {
         }
     }
 
+    /// DIVU or REMU by 0; what they give is often used at once.
+    fn by_zero(&mut self) {
+        let (value, other) = (self.value(), self.value());
+        let constant = self.random.pick(&CONSTANTS);
+        let dividend = self.random.pick(&[value, value, value, value, constant, 0]);
+        let rd = self.random.pick(&[TEST, TEST, value, other, other, 10, 0]);
+        let divide = self.random.pick(&[divu, remu]);
+        let words: [&[u32]; 5] = [
+            &[divide(rd, dividend, 0)],
+            &[divide(rd, dividend, 0)],
+            &[sub(TEST, value, value), divide(rd, dividend, TEST)],
+            // the divisor is 0 in one piece of a fork alone
+            &[sltu(TEST, value, NEAR), divide(rd, dividend, TEST)],
+            &[beq(other, 0, 8), jal(0, 8), divide(rd, dividend, other)],
+        ];
+        self.code.extend(self.random.pick(&words));
+        if !self.random.once_in(3) {
+            self.use_at_once(rd);
+        }
+    }
+
+    fn use_at_once(&mut self, result: u32) {
+        let (value, other) = (self.value(), self.value());
+        let limit = self.random.pick(&[NEAR, NEAR, WIDE]);
+        let words: [&[u32]; 10] = [
+            &[sltu(TEST, result, limit), beq(TEST, 0, 8)],
+            &[sltu(TEST, value, result), beq(TEST, 0, 8)],
+            &[beq(result, limit, 8)],
+            &[beq(value, result, 8)],
+            &[add(other, result, limit)],
+            &[sub(other, limit, result)],
+            &[sd(result, 64, 0), ld(other, 64, 0)],
+            &[mul(other, result, SMALL_POWER)],
+            &[remu(other, result, limit)],
+            &[remu(other, value, result)],
+        ];
+        self.code.extend(self.random.pick(&words));
+    }
+
     fn immediate(&mut self) {
         let (rd, value) = (self.value(), self.value());
         let imm = self.random.pick(&[-2048, -7, -1, 0, 1, 5, 40, 2047]);
@@ -224,10 +268,10 @@ impl Writer<'_> {
         self.code.push(addi(COUNTER, 0, turns));
         let start = self.code.len();
         for _ in 0..1 + self.random.below(3) {
-            if self.random.once_in(6) {
-                self.against_itself();
-            } else {
-                self.operation();
+            match self.random.below(12) {
+                0 | 1 => self.against_itself(),
+                2 => self.by_zero(),
+                _ => self.operation(),
             }
         }
         self.code.extend([addi(COUNTER, COUNTER, -1), beq(COUNTER, 0, 8)]);
@@ -274,7 +318,7 @@ impl Writer<'_> {
     fn oddity(&mut self) {
         let value = self.value();
         let odd = self.random.next() as u32;
-        let words: [&[u32]; 21] = [
+        let words: [&[u32]; 19] = [
             &[ld(10, 0, value)],
             &[sd(10, 0, value)],
             &[jalr(1, 0, value)],
@@ -291,8 +335,6 @@ impl Writer<'_> {
             &[jalr(1, -3, 0)],
             &[addi(17, 0, 64), ecall()],
             &[addi(17, 0, 63), addi(12, 0, 4), ecall()],
-            &[divu(10, value, 0)],
-            &[remu(10, value, 0)],
             &[divu(10, POWER, value)],
             &[jal(0, 0)],
             &[beq(value, value, 0)],

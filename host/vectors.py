@@ -49,8 +49,8 @@ MEANING = {
     "add": lambda a, b: a + b,
     "sub": lambda a, b: a - b,
     "mul": lambda a, b: a * b,
-    "divu": lambda a, b: a // b,
-    "remu": lambda a, b: a % b,
+    "divu": lambda a, b: a // b if b else MAX,
+    "remu": lambda a, b: a % b if b else a,
     "sltu": lambda a, b: int(a < b),
 }
 
@@ -137,10 +137,9 @@ def comparison():
 
 
 def division():
-    """Without the cases whose divisor is 0: there the machine of document 01 stops."""
     low = 1 << 63
-    quotients = [(3, 20, 6), (3074457345618258599, -20, 6), (0, 20, -6), (0, -20, -6), (low, low, 1), (0, low, -1)]
-    rests = [(2, 20, 6), (2, -20, 6), (20, 20, -6), (-20, -20, -6), (0, low, 1), (low, low, -1)]
+    quotients = [(3, 20, 6), (3074457345618258599, -20, 6), (0, 20, -6), (0, -20, -6), (low, low, 1), (0, low, -1), (-1, low, 0), (-1, 1, 0), (-1, 0, 0)]
+    rests = [(2, 20, 6), (2, -20, 6), (20, 20, -6), (-20, -20, -6), (0, low, 1), (low, low, -1), (low, low, 0), (1, 1, 0), (0, 0, 0)]
     nothing = ([], [])
     return register_cases("divu", quotients, None, None, nothing) + register_cases("remu", rests, None, None, nothing)
 

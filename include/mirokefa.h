@@ -58,7 +58,7 @@ enum mirokefa_refusal {
 
 enum mirokefa_kind {
     MIROKEFA_EXIT = 1,              /* exit, with the value in register 10 */
-    MIROKEFA_DIVISION_BY_ZERO = 2,  /* DIVU or REMU by 0 */
+    MIROKEFA_DIVISION_BY_ZERO = 2,  /* no longer given: DIVU by 0 gives 2^64 - 1, REMU by 0 the dividend */
     MIROKEFA_BAD_PC = 3,            /* pc not a multiple of 4 or beyond the code */
     MIROKEFA_BAD_WORD = 4,          /* the word is none of the fourteen instructions */
     MIROKEFA_BAD_ADDRESS = 5,       /* data address not a multiple of 8 or above 4,088 */
@@ -72,7 +72,7 @@ enum mirokefa_reason {
     MIROKEFA_BOTH_OPEN = 1,         /* both operands of ADD, SUB, MUL, SLTU or BEQ not fixed; SUB, SLTU and BEQ of one register
                                        twice are followed */
     MIROKEFA_MULTIPLIER = 2,        /* MUL by a fixed number, neither 0 nor a power of two */
-    MIROKEFA_DIVISOR = 3,           /* DIVU by a fixed number that is no power of two */
+    MIROKEFA_DIVISOR = 3,           /* DIVU by a fixed number that is neither 0 nor a power of two */
     MIROKEFA_DIVISOR_OPEN = 4,      /* DIVU or REMU by a number that is not fixed */
     MIROKEFA_QUOTIENTS = 5,         /* MUL or REMU with quotients more than 1 apart */
     MIROKEFA_BASE_OPEN = 6,         /* base of LD, SD or JALR not fixed */

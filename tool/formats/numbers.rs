@@ -2,11 +2,16 @@
 
 use crate::limits::*;
 
-// How many there are; they are numbered from 1. The first are an exploration's.
+// The highest numbers; the lowest is 1. The first refusals are an exploration's.
 pub const CALL_REFUSALS: u64 = 8;
 pub const REFUSALS: u64 = 13;
 pub const KINDS: u64 = 9;
 pub const REASONS: u64 = 7;
+
+/// Is it the kind of some path? No. 3 of document 02 leaves 2 unused.
+pub fn kind_occurs(kind: u64) -> bool {
+    kind != 2 && (1..=KINDS).contains(&kind)
+}
 
 /// What placing answers for a row that no path holds.
 pub const NO_PATH: u64 = u64::MAX;
@@ -33,7 +38,8 @@ pub fn refusal_text(number: u64) -> String {
 pub fn kind_text(kind: u64) -> &'static str {
     match kind {
         1 => "exit",
-        2 => "division by zero",
+        // a stored report may still have it
+        2 => "division by zero (no longer given)",
         3 => "pc outside the code, or not a multiple of 4",
         4 => "the word at pc is no instruction",
         5 => "data address above 4088, or not a multiple of 8",
@@ -49,7 +55,7 @@ pub fn reason_text(reason: u64) -> &'static str {
     match reason {
         1 => "both operands vary",
         2 => "the fixed multiplier is neither 0 nor a power of two",
-        3 => "the fixed divisor of divu is no power of two",
+        3 => "the fixed divisor of divu is neither 0 nor a power of two",
         4 => "the divisor varies",
         5 => "the product or remainder wraps more than once over the interval",
         6 => "the base address of ld, sd or jalr varies",
@@ -94,5 +100,11 @@ mod tests {
         check_texts(refusal_text, REFUSALS);
         check_texts(|kind| kind_text(kind).to_string(), KINDS);
         check_texts(|reason| reason_text(reason).to_string(), REASONS);
+    }
+
+    #[test]
+    fn kind_2_does_not_occur() {
+        let kinds: Vec<u64> = (0..=KINDS + 1).filter(|&kind| kind_occurs(kind)).collect();
+        assert_eq!(kinds, [1, 3, 4, 5, 6, 7, 8, 9]);
     }
 }

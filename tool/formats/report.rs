@@ -279,6 +279,7 @@ mod tests {
         let end = |first: &[(usize, u64)]| end_text(&read(&bytes_of(first, &[])).unwrap());
         assert_eq!(end(&[(1, 1), (21, 3), (22, 3)]), "exit with 3");
         assert_eq!(end(&[(1, 1), (21, 0), (22, u64::MAX)]), format!("exit with 0 to {}", u64::MAX));
+        assert_eq!(end(&[(1, 2)]), "division by zero (no longer given)");
         assert_eq!(end(&[(1, 7)]), "the step limit is reached");
         assert_eq!(end(&[(1, 8), (23, 4)]), "not followed: the divisor varies");
         assert_eq!(end(&[(1, 8), (23, 9)]), "not followed: no such reason");

@@ -6,7 +6,7 @@ use Rattle.boxes.specs.Boxes.{Interval, _⋯_, lows, highs}
 use Rattle.listing.specs.Listing.{Path}
 use Rattle.listing.specs.Numbers.{kindNumber, reasonWord}
 use Rattle.listing.specs.declared.End.{End}
-use Rattle.listing.specs.declared.End.the-variants.{Exit, DivisionByZero, BadPc, BadWord, BadAddress, BadCall, StepLimit, NotFollowed, TraceFull}
+use Rattle.listing.specs.declared.End.the-variants.{Exit, BadPc, BadWord, BadAddress, BadCall, StepLimit, NotFollowed, TraceFull}
 use Rattle.blocks.specs.Block.{blockBytes, block}
 
 -- the size of a record of so many inputs
@@ -27,7 +27,6 @@ registerOf p r = getD (p .registers) r (0 ⋯ 0)
 -- the exit value is register 10; 0 unless kind 1
 abbrev pub exitWord : End → ℕ → ℕ
 exitWord Exit v = v
-exitWord DivisionByZero v = 0
 exitWord BadPc v = 0
 exitWord BadWord v = 0
 exitWord BadAddress v = 0

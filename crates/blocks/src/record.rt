@@ -41,7 +41,6 @@ fn exit_word(e: End, v: u64) -> u64
 {
     match e {
         End::Exit => v,
-        End::DivisionByZero => 0,
         End::BadPc => 0,
         End::BadWord => 0,
         End::BadAddress => 0,

@@ -33,7 +33,7 @@ AtEnds j p f v =
     ((x ≡ v .low) × (y ≡ v .high)) ⊎ ((x ≡ v .high) × (y ≡ v .low))
 
 -- One choice runs the path: the plain machine completes its steps, comes to its pc with its inputs read, stops there with its kind
--- (1 to 6; the others stop the engine alone), and has every register and the exit value inside the reported interval.
+-- (up to 6; the others stop the engine alone), and has every register and the exit value inside the reported interval.
 pub record Runs (j : Job) (p : Path) (c : Choice) : Type 0 where
   pub completes : (m : ℕ) → m < p .steps → stopOf (j .code) (after j m c) ≡ none
   pub pc : atEnd j p c .pc ≡ p .pc

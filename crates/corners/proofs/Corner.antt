@@ -132,14 +132,9 @@ module _ (j : Job) (g : Group) (good : Good j g) where
       then (cc (operandOpens b, operandValues a)) (λ _.
       then (cc (operandOpens a, operandValues b)) (λ _.
       then (quotient Mul a b wa wb (not-both j g a b tt n)) (λ _. done))))
-  operation-agrees Divu a b wa wb =
-      then (operandOpens b) (λ _.
-      then (cc (operandValues b)) (λ _.
-      then (cc (operandOpens a, operandValues b)) (λ _. done)))
+  operation-agrees Divu a b wa wb = then (operandOpens b) (λ _. then (cc (operandOpens a, operandValues b)) (λ _. done))
   operation-agrees Remu a b wa wb =
-      then (operandOpens b) (λ n.
-      then (cc (operandValues b)) (λ _.
-      then (quotient Remu a b wa wb (inl (operand-closed j g b n))) (λ _. done)))
+      then (operandOpens b) (λ n. then (quotient Remu a b wa wb (inl (operand-closed j g b n))) (λ _. done))
   operation-agrees Sltu a b wa wb = then (two a b) (λ n. done)
 
   operands-agree : (x : Sorting) → WordsIn x → Agree (operandPoints (viewOf j g) x) (operandPoints (cornersOf j g) x)

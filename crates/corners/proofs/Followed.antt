@@ -5,11 +5,11 @@ use mathlib.Core.Logic.{_⊎_, inl, inr, ⊎-elim}
 use mathlib.Core.Bool.{Bool, true, false, not, _&&_, _||_, true≢false, and-eq-true-iff}
 use mathlib.Core.List.{List, [], _∷_, _++_}
 use mathlib.Core.Option.{Option, none, some}
-use Prim.Native.Nat.{ℕ, _%_, _<_}
+use Prim.Native.Nat.{ℕ, _%_}
 use native.Mathlib.Omega.{arith}
 use lib.Dec.{eqb, ltb}
 use lib.IntN.{ℤ}
-use borrow.Author.Tests.{eqb-true, eqb-false, ltb-false, not-false}
+use borrow.Author.Tests.{eqb-true, ltb-false, not-false}
 use Rattle.boxes.specs.Boxes.{Choice, Inside}
 use Rattle.boxes.proofs.Lists.{by-test}
 use Rattle.boxes.proofs.OneInput.{low-is, fixed-constant}
@@ -19,15 +19,15 @@ use Rattle.riscu.specs.declared.Operation.the-variants.{Add, Sub, Mul, Divu, Re
 use Rattle.riscu.specs.declared.Instruction.{Instruction}
 use Rattle.riscu.specs.declared.Instruction.the-variants.{Lui, Addi, Register, Ld, Sd, Beq, Jal, Jalr, Ecall}
 use Rattle.listing.specs.Group.{Job, Group, after, sortingOf, operand, viewOf}
-use Rattle.listing.specs.Ending.{Point, first, lastAddress, badAddress, sameRegister, operandOpen, operandValue, bothOpen, twoOpen, divisorPoints}
+use Rattle.listing.specs.Ending.{Point, first, lastAddress, badAddress, sameRegister, operandOpen, bothOpen, twoOpen}
 use Rattle.listing.specs.Ending.{operationPoints, operandPoints, addressPoints, points}
 use Rattle.listing.specs.declared.Operand.{Operand}
 use Rattle.listing.specs.declared.Operand.the-variants.{InRegister, Constant}
 use Rattle.listing.specs.declared.Sorting.{Sorting}
 use Rattle.listing.specs.declared.Sorting.the-variants.{Operates, Compares, Nothing}
 use Rattle.listing.specs.declared.End.{End}
-use Rattle.corners.specs.Smooth.{EitherOpen, WithItself, Same, OneSame, DataAddress, Defined, Reaches, Computes, Completes}
-use Rattle.corners.specs.Smooth.{baseOf, BaseSame, PairSettled, OperandsSettled, Settled}
+use Rattle.corners.specs.Smooth.{EitherOpen, WithItself, Same, OneSame, DataAddress, Completes, baseOf}
+use Rattle.corners.specs.Smooth.{BaseSame, PairSettled, OperandsSettled, Settled}
 
 -- tests that fail
 
@@ -107,11 +107,6 @@ module _ (j : Job) (g : Group) where
   operand-closed (InRegister r) e = closed (reg r) e
   operand-closed (Constant n) e = λ c d m n. refl
 
-  pub operand-at : (a : Operand) → operandOpen (viewOf j g) a ≡ false → (c : Choice) → Inside c (g .box)
-      → operandValue (viewOf j g) a ≡ operand a (states c .registers)
-  operand-at (InRegister r) e c m = lowest-at (reg r) (closed (reg r) e) c m
-  operand-at (Constant n) e c m = refl
-
   pub not-both : {E : Type 0} (a b : Operand) → E → bothOpen (viewOf j g) a b ≡ false
       → OneSame E (g .box) (λ c. operand a (states c .registers)) (λ c. operand b (states c .registers))
   not-both a b e h =
@@ -123,31 +118,22 @@ module _ (j : Job) (g : Group) where
       ⊎-elim (λ p. inl (not-both a b e p)) (λ p. inr (i, same-register a b (not-false (sameRegister a b) p)))
       (and-false (bothOpen (viewOf j g) a b) (not (sameRegister a b)) h)
 
-  -- the divisor is fixed, and not 0 for every choice
-  divisor-followed : (b : Operand) (ps : List Point) → first (divisorPoints (viewOf j g) b ++ ps) ≡ none
-      → Same (g .box) (λ c. operand b (states c .registers)) × ((c : Choice) → Inside c (g .box) → 0 < operand b (states c .registers))
-  divisor-followed b ps e =
-      let (p, d) = first-none _ _ e in
-      let q : ¬ (operandValue (viewOf j g) b ≡ 0) = eqb-false _ _ (first-none _ _ d .0) in
-      (operand-closed b p, λ c m. omega (arith, operand-at b p c m))
-
+  -- the first point of an operation is the one that asks which operands are open
   operation-followed : (op : Operation) (a b : Operand) → first (operationPoints (viewOf j g) op a b) ≡ none
       → PairSettled (g .box) states (EitherOpen op) (WithItself op) a b
-      × ((c : Choice) → Inside c (g .box) → Defined op (operand b (states c .registers)))
   unfolding operationPoints
-  operation-followed Add a b e = (inl (not-both a b tt (first-none _ _ e .0)), λ c m. tt)
-  operation-followed Sub a b e = (not-two a b tt tt (first-none _ _ e .0), λ c m. tt)
-  operation-followed Mul a b e = (inl (not-both a b tt (first-none _ _ e .0)), λ c m. tt)
-  operation-followed Divu a b e = let (s, d) = divisor-followed b _ e in (inl (inl s), d)
-  operation-followed Remu a b e = let (s, d) = divisor-followed b _ e in (inl (inl s), d)
-  operation-followed Sltu a b e = (not-two a b tt tt (first-none _ _ e .0), λ c m. tt)
+  operation-followed Add a b e = inl (not-both a b tt (first-none _ _ e .0))
+  operation-followed Sub a b e = not-two a b tt tt (first-none _ _ e .0)
+  operation-followed Mul a b e = inl (not-both a b tt (first-none _ _ e .0))
+  operation-followed Divu a b e = inl (inl (operand-closed b (first-none _ _ e .0)))
+  operation-followed Remu a b e = inl (inl (operand-closed b (first-none _ _ e .0)))
+  operation-followed Sltu a b e = not-two a b tt tt (first-none _ _ e .0)
 
-  operands-followed : (x : Sorting) → first (operandPoints (viewOf j g) x) ≡ none
-      → OperandsSettled (g .box) states x × ((c : Choice) → Inside c (g .box) → Computes x (states c))
+  operands-followed : (x : Sorting) → first (operandPoints (viewOf j g) x) ≡ none → OperandsSettled (g .box) states x
   unfolding operandPoints
   operands-followed (Operates op a b) e = operation-followed op a b e
-  operands-followed (Compares a b) e = (not-two a b tt tt (first-none _ _ e .0), λ c m. tt)
-  operands-followed Nothing e = (tt, λ c m. tt)
+  operands-followed (Compares a b) e = not-two a b tt tt (first-none _ _ e .0)
+  operands-followed Nothing e = tt
 
   -- the base is fixed, and the address is good for every choice
   base-followed : (r : ℕ) (imm : ℤ) (x y : End)
@@ -162,7 +148,7 @@ module _ (j : Job) (g : Group) where
       (s, λ c m. rw (lowest-at (offset r imm) o c m) at a)
 
   read-followed : first (addressPoints (viewOf j g) Ecall) ≡ none
-      → Same (g .box) (λ c. reg 11 (states c)) × ((c : Choice) → Inside c (g .box) → Reaches Ecall (states c))
+      → Same (g .box) (λ c. reg 11 (states c)) × ((c : Choice) → Inside c (g .box) → Completes Ecall (states c))
   unfolding addressPoints
   read-followed e =
       let (h₁, e₁) = first-none _ _ e in
@@ -186,7 +172,7 @@ module _ (j : Job) (g : Group) where
       )
 
   address-followed : (i : Instruction) → first (addressPoints (viewOf j g) i) ≡ none
-      → BaseSame (g .box) states (baseOf i) × ((c : Choice) → Inside c (g .box) → Reaches i (states c))
+      → BaseSame (g .box) states (baseOf i) × ((c : Choice) → Inside c (g .box) → Completes i (states c))
   unfolding addressPoints
   address-followed (Lui rd imm) e = (tt, λ c m. tt)
   address-followed (Addi rd rs1 imm) e = (tt, λ c m. tt)
@@ -204,5 +190,4 @@ module _ (j : Job) (g : Group) where
   points-followed i e =
       let (d, f) = first-none-append (addressPoints (viewOf j g) i) (operandPoints (viewOf j g) (sortingOf i)) e in
       let (b, r) = address-followed i d in
-      let (o, k) = operands-followed (sortingOf i) f in
-      ((b, o), λ c m. (r c m, k c m))
+      ((b, operands-followed (sortingOf i) f), r)

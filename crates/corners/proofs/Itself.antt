@@ -11,8 +11,9 @@ use lib.Dec.{eqb, ltb}
 use lib.ListN.{length}
 use lib.IntN.{ℤ}
 use borrow.Author.Tests.{eq-eqb}
-use Rattle.boxes.specs.Boxes.{Proper}
+use Rattle.boxes.specs.Boxes.{Choice, Proper, Inside}
 use Rattle.boxes.proofs.Lists.{by-test}
+use Rattle.boxes.proofs.Choices.{lows-inside}
 use Rattle.boxes.proofs.Pieces.{pieces-one}
 use Rattle.riscu.specs.Word.{word, widen}
 use Rattle.riscu.specs.Machine.{State, reg, put, next, jump, step}
@@ -30,18 +31,22 @@ use Rattle.listing.specs.declared.End.the-variants.{NotFollowed}
 use Rattle.corners.specs.Smooth.{WithItself}
 use Rattle.corners.proofs.Operations.{with-itself, class-itself, result-itself, comparison-itself}
 
--- no point from 4 to 9 ends the instruction, whatever is open; it does not fork, and takes an entry for its writes alone
+-- an instruction that does not fork a group, and takes entries for its writes alone
+pub record Unforked (j : Job) (g : Group) (i : Instruction) : Type 0 where
+  pub one-piece : viewOf j g .piecesOf i ≡ g .box ∷ []
+  pub entries : needs g (viewOf j g) i ≡ writes (ltb (viewOf j g .reads) (length (g .box))) i
+
+pub one-class : (j : Job) (g : Group) (i : Instruction) (n : ℕ) → Proper (g .box)
+    → ((c : Choice) → Inside c (g .box) → classOf i (after j (g .steps) c) ≡ n) → Unforked j g i
+unfolding needs
+one-class j g i n p h =
+    let e : viewOf j g .piecesOf i ≡ g .box ∷ [] = pieces-one (λ c. classOf i (after j (g .steps) c)) (g .box) p (λ c m. h c m ∙ sym (h _ (lows-inside (g .box) p))) in
+    record { one-piece = e; entries = rw e (omega arith) }
+
+-- no point from 4 to 9 ends the instruction, whatever is open, and it does not fork
 pub record AlwaysFollowed (i : Instruction) : Type 0 where
   pub passes : (v : View) → first (points v i) ≡ none
-  pub one-piece : (j : Job) (g : Group) → Proper (g .box) → viewOf j g .piecesOf i ≡ g .box ∷ []
-  pub entries : (j : Job) (g : Group) → Proper (g .box) → needs g (viewOf j g) i ≡ writes (ltb (viewOf j g .reads) (length (g .box))) i
-
-one-class : (i : Instruction) (n : ℕ) → ((v : View) → first (points v i) ≡ none) → ((s : State) → classOf i s ≡ n) → AlwaysFollowed i
-unfolding needs
-one-class i n p h = record { passes = p; one-piece = piece; entries = λ j g q. rw (piece j g q) (omega arith) }
-  where
-    piece : (j : Job) (g : Group) → Proper (g .box) → viewOf j g .piecesOf i ≡ g .box ∷ []
-    piece j g q = pieces-one (λ c. classOf i (after j (g .steps) c)) (g .box) q (λ c m. h _ ∙ sym (h _))
+  pub unforked : (j : Job) (g : Group) → Proper (g .box) → Unforked j g i
 
 not-two-itself : (v : View) (r : ℕ) → twoOpen v (InRegister r) (InRegister r) ≡ false
 not-two-itself v r = by-test (openAt v r) (λ e. rw (e, eq-eqb r r refl)) (λ e. rw e)
@@ -55,13 +60,19 @@ operation-passes =
 pub operation-itself : (op : Operation) → WithItself op → (rd r : ℕ) → AlwaysFollowed (Register op rd r r)
 unfolding points addressPoints operandPoints sortingOf classOf classBy first
 operation-itself op i rd r =
-    one-class (Register op rd r r) 0
-    (λ v. by-test (eqb rd 0) (λ z. rw z) (λ z. rw z (operation-passes op i v r)))
-    (λ s. by-test (eqb rd 0) (λ z. rw z) (λ z. rw z (class-itself op i (reg r s))))
+    record {
+      passes = λ v. by-test (eqb rd 0) (λ z. rw z) (λ z. rw z (operation-passes op i v r));
+      unforked = λ j g p. one-class j g (Register op rd r r) 0 p (λ c m.
+          by-test (eqb rd 0) (λ z. rw z) (λ z. rw z (class-itself op i (reg r (after j (g .steps) c)))));
+    }
 
 pub branch-itself : (r : ℕ) (imm : ℤ) → AlwaysFollowed (Beq r r imm)
 unfolding points addressPoints operandPoints sortingOf classOf classBy first
-branch-itself r imm = one-class (Beq r r imm) 1 (λ v. rw (not-two-itself v r)) (λ s. comparison-itself (reg r s))
+branch-itself r imm =
+    record {
+      passes = λ v. rw (not-two-itself v r);
+      unforked = λ j g p. one-class j g (Beq r r imm) 1 p (λ c m. comparison-itself (reg r (after j (g .steps) c)));
+    }
 
 pub operation-gives-0 : (op : Operation) → WithItself op → (inputs : List ℕ) (rd r : ℕ) (s : State) → Whole s
     → step inputs (Register op rd r r) s ≡ next s (put rd 0 s) (s .memory)

@@ -5,6 +5,7 @@
 --     Uniform         after smooth steps every value is tame, with the tag that is computed
 --     Followed        what the ending order says of a group that goes on
 --     Itself          one register named twice: SUB, SLTU and BEQ go on
+--     ByZero          a fixed divisor 0: DIVU and REMU go on
 --     Corner          the corners decide the ending order and the pieces
 --     Needs           the entries that a step takes, by the corners
 --     Moves           induction along the moves; every waiting group has smooth steps behind it
@@ -17,6 +18,7 @@ pub mod Smooth
 pub mod Uniform
 pub mod Followed
 pub mod Itself
+pub mod ByZero
 pub mod Corner
 pub mod Needs
 pub mod Moves

@@ -104,6 +104,19 @@ pub comparison-falls : Monotone Words (flip comparison)
 comparison-falls = inr (λ v x y w h.
     omega (arith, comparison-less v x, comparison-less v y, less-le y v x v (omega arith), less-le v x v y (omega arith)))
 
+-- division, with the two results by 0
+divu-rises : (v x y : ℕ) → x ≤ y → operate Divu x v ≤ operate Divu y v
+unfolding operate
+divu-rises v x y h = by-test (eqb v 0) (λ e. rw e (omega arith)) (λ e. rw e (div-rises v h))
+
+remu-class : (v x y : ℕ) → x ≤ y → sortOf Remu x v ≤ sortOf Remu y v
+unfolding sortOf
+remu-class v x y h = by-test (eqb v 0) (λ e. rw e (omega arith)) (λ e. rw e (div-rises v h))
+
+remu-rises : (v x y : ℕ) → sortOf Remu x v ≡ sortOf Remu y v → x ≤ y → operate Remu x v ≤ operate Remu y v
+unfolding sortOf operate
+remu-rises v x y s h = by-test (eqb v 0) (λ e. rw e h) (λ e. rw e (mod-rises v h (rw e at s)))
+
 -- The table: a line for each operation with its second operand held fixed, and one with its first.
 
 pub open-first : (op : Operation) → Sorts (sortOf op) (operate op)
@@ -111,8 +124,9 @@ unfolding sortOf operate
 open-first Add = by-quotient (λ x v. x + v) (omega arith) (λ v. size)
 open-first Sub = record { class = less-falls; result = inl (λ v x y w h. sub-rises v x y (w .0) (less-same x v y v (w .1)) h) }
 open-first Mul = by-quotient (λ x v. x * v) (λ v x y h. mul-le-mul-right v h) (λ v. size)
-open-first Divu = by-nothing (λ x v. x / v) (λ v x y h. div-rises v h)
-open-first Remu = by-quotient (λ x v. x) (omega arith) (λ v. v)
+open-first Divu = by-nothing (operate Divu) divu-rises
+open-first Remu =
+    record { class = inl (λ v x y w h. remu-class v x y h); result = inl (λ v x y w h. remu-rises v x y (w .1) h) }
 open-first Sltu = by-itself less less-falls
 
 pub open-second : (op : Operation) → EitherOpen op → Sorts (flip (sortOf op)) (flip (operate op))

@@ -2,7 +2,7 @@
 use mathlib.Core.Path.{_≡_}
 use mathlib.Core.Logic.{_⊎_}
 use mathlib.Core.Option.{Option, none, some}
-use Prim.Native.Nat.{ℕ, _%_, _≤_, _<_}
+use Prim.Native.Nat.{ℕ, _%_, _≤_}
 use Rattle.boxes.specs.Boxes.{Choice, Box, Inside}
 use Rattle.riscu.specs.Machine.{State, reg, offset, fetch}
 use Rattle.riscu.specs.declared.Operation.{Operation}
@@ -45,36 +45,17 @@ WithItself Sltu = Unit {0}
 abbrev pub DataAddress : ℕ → Type 0
 DataAddress a = (a % 8 ≡ 0) × (a ≤ lastAddress)
 
--- the operation has a result: a divisor is not 0
-abbrev pub Defined : Operation → ℕ → Type 0
-Defined Add b = Unit {0}
-Defined Sub b = Unit {0}
-Defined Mul b = Unit {0}
-Defined Divu b = 0 < b
-Defined Remu b = 0 < b
-Defined Sltu b = Unit {0}
-
--- points 5, 6 and 9 do not stop the plain machine
-abbrev pub Reaches : Instruction → State → Type 0
-Reaches (Lui rd imm) s = Unit {0}
-Reaches (Addi rd rs1 imm) s = Unit {0}
-Reaches (Register op rd rs1 rs2) s = Unit {0}
-Reaches (Ld rd rs1 imm) s = DataAddress (offset rs1 imm s)
-Reaches (Sd rs1 rs2 imm) s = DataAddress (offset rs1 imm s)
-Reaches (Beq rs1 rs2 imm) s = Unit {0}
-Reaches (Jal rd imm) s = Unit {0}
-Reaches (Jalr rd rs1 imm) s = Unit {0}
-Reaches Ecall s = (reg 17 s ≡ 63) × (reg 10 s ≡ 0) × (reg 12 s ≡ 8) × DataAddress (reg 11 s)
-
--- nor does point 7's divisor 0
-abbrev pub Computes : Sorting → State → Type 0
-Computes (Operates op x y) s = Defined op (operand y (s .registers))
-Computes (Compares x y) s = Unit {0}
-Computes Nothing s = Unit {0}
-
--- the plain machine completes the instruction
+-- the plain machine completes the instruction: points 5, 6 and 9 do not stop it
 abbrev pub Completes : Instruction → State → Type 0
-Completes i s = Reaches i s × Computes (sortingOf i) s
+Completes (Lui rd imm) s = Unit {0}
+Completes (Addi rd rs1 imm) s = Unit {0}
+Completes (Register op rd rs1 rs2) s = Unit {0}
+Completes (Ld rd rs1 imm) s = DataAddress (offset rs1 imm s)
+Completes (Sd rs1 rs2 imm) s = DataAddress (offset rs1 imm s)
+Completes (Beq rs1 rs2 imm) s = Unit {0}
+Completes (Jal rd imm) s = Unit {0}
+Completes (Jalr rd rs1 imm) s = Unit {0}
+Completes Ecall s = (reg 17 s ≡ 63) × (reg 10 s ≡ 0) × (reg 12 s ≡ 8) × DataAddress (reg 11 s)
 
 -- the register that an address is taken from
 abbrev pub baseOf : Instruction → Option ℕ

@@ -23,8 +23,7 @@ ghost use Rattle.riscu.specs.declared.Instruction.the-variants.{Register, Ld, J
 ghost use Rattle.listing.specs.declared.Operand.the-variants.{InRegister};
 ghost use Rattle.listing.specs.declared.Sorting.the-variants.{Compares};
 ghost use Rattle.listing.specs.Ending.{openAt, valueAt, badAccess, callOpen, badCall, badRead, sameRegister, operandOpen, operandValue};
-ghost use Rattle.listing.specs.Ending.{bothOpen, twoOpen, zeroDivisor, oddMultiplier, oddDivisor, farApart, divisorPoints, operationPoints};
-ghost use Rattle.listing.specs.Ending.{operandPoints, addressPoints, points};
+ghost use Rattle.listing.specs.Ending.{bothOpen, twoOpen, oddFactor, farApart, operationPoints, operandPoints, addressPoints, points};
 ghost use Rattle.decide.specs.Corner.{cornerView, verdict};
 
 // Whether a register differs at the corners.
@@ -195,8 +194,8 @@ fn two_open(low: &Registers, high: &Registers, a: Operand, b: Operand) -> bool
 }
 
 // a is neither 0 nor a power of two, and b is open.
-fn multiplier(low: &Registers, high: &Registers, a: Operand, b: Operand) -> bool
-    ensures { λ r. ⌜ r ≡ oddMultiplier (cornerView (now (low .entry)) (now (high .entry))) a b ⌝ }
+fn odd_factor(low: &Registers, high: &Registers, a: Operand, b: Operand) -> bool
+    ensures { λ r. ⌜ r ≡ oddFactor (cornerView (now (low .entry)) (now (high .entry))) a b ⌝ }
 {
     let x = operand_open(low, high, b);
     if x {
@@ -206,27 +205,6 @@ fn multiplier(low: &Registers, high: &Registers, a: Operand, b: Operand) -> bool
     } else {
         false
     }
-}
-
-// b is no power of two, and a is open.
-fn odd_divisor(low: &Registers, high: &Registers, a: Operand, b: Operand) -> bool
-    ensures { λ r. ⌜ r ≡ oddDivisor (cornerView (now (low .entry)) (now (high .entry))) a b ⌝ }
-{
-    let x = operand_open(low, high, a);
-    if x {
-        let v = operand_least(low, high, b);
-        let p = is_power(v);
-        !p
-    } else {
-        false
-    }
-}
-
-fn zero_divisor(low: &Registers, high: &Registers, b: Operand) -> bool
-    ensures { λ r. ⌜ r ≡ zeroDivisor (cornerView (now (low .entry)) (now (high .entry))) b ⌝ }
-{
-    let v = operand_least(low, high, b);
-    v == 0
 }
 
 // More than 1 apart.
@@ -271,10 +249,10 @@ fn product_points(low: &Registers, high: &Registers, a: Operand, b: Operand) -> 
     let Verdict::Passes = v else {
         return v;
     };
-    if multiplier(low, high, a, b) {
+    if odd_factor(low, high, a, b) {
         return Verdict::Ends(End::NotFollowed(Reason::Multiplier));
     }
-    if multiplier(low, high, b, a) {
+    if odd_factor(low, high, b, a) {
         return Verdict::Ends(End::NotFollowed(Reason::Multiplier));
     }
     if quotients(Operation::Mul, low, high, a, b) {
@@ -283,26 +261,13 @@ fn product_points(low: &Registers, high: &Registers, a: Operand, b: Operand) -> 
     Verdict::Passes
 }
 
-fn divisor_points(low: &Registers, high: &Registers, b: Operand) -> Verdict
-    ensures { λ r. ⌜ r ≡ verdict (divisorPoints (cornerView (now (low .entry)) (now (high .entry))) b) ⌝ }
+fn quotient_points(low: &Registers, high: &Registers, a: Operand, b: Operand) -> Verdict
+    ensures { λ r. ⌜ r ≡ verdict (operationPoints (cornerView (now (low .entry)) (now (high .entry))) Divu a b) ⌝ }
 {
     if operand_open(low, high, b) {
         return Verdict::Ends(End::NotFollowed(Reason::DivisorOpen));
     }
-    if zero_divisor(low, high, b) {
-        return Verdict::Ends(End::DivisionByZero);
-    }
-    Verdict::Passes
-}
-
-fn quotient_points(low: &Registers, high: &Registers, a: Operand, b: Operand) -> Verdict
-    ensures { λ r. ⌜ r ≡ verdict (operationPoints (cornerView (now (low .entry)) (now (high .entry))) Divu a b) ⌝ }
-{
-    let v = divisor_points(low, high, b);
-    let Verdict::Passes = v else {
-        return v;
-    };
-    if odd_divisor(low, high, a, b) {
+    if odd_factor(low, high, b, a) {
         return Verdict::Ends(End::NotFollowed(Reason::Divisor));
     }
     Verdict::Passes
@@ -311,10 +276,9 @@ fn quotient_points(low: &Registers, high: &Registers, a: Operand, b: Operand) ->
 fn remainder_points(low: &Registers, high: &Registers, a: Operand, b: Operand) -> Verdict
     ensures { λ r. ⌜ r ≡ verdict (operationPoints (cornerView (now (low .entry)) (now (high .entry))) Remu a b) ⌝ }
 {
-    let v = divisor_points(low, high, b);
-    let Verdict::Passes = v else {
-        return v;
-    };
+    if operand_open(low, high, b) {
+        return Verdict::Ends(End::NotFollowed(Reason::DivisorOpen));
+    }
     if quotients(Operation::Remu, low, high, a, b) {
         return Verdict::Ends(End::NotFollowed(Reason::Quotients));
     }

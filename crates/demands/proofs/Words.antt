@@ -16,8 +16,7 @@ use Rattle.listing.specs.Numbers.{kindNumber, reasonNumber, reasonWord}
 use Rattle.listing.specs.declared.Reason.{Reason}
 use Rattle.listing.specs.declared.Reason.the-variants.{BothOpen, Multiplier, Divisor, DivisorOpen, Quotients, BaseOpen, CallOpen}
 use Rattle.listing.specs.declared.End.{End}
-use Rattle.listing.specs.declared.End.the-variants.{Exit, DivisionByZero, BadPc, BadWord, BadAddress, BadCall, StepLimit, NotFollowed}
-use Rattle.listing.specs.declared.End.the-variants.{TraceFull}
+use Rattle.listing.specs.declared.End.the-variants.{Exit, BadPc, BadWord, BadAddress, BadCall, StepLimit, NotFollowed, TraceFull}
 use Rattle.corners.proofs.Uniform.{whole-after}
 use Rattle.corners.proofs.Enough.{listing-steps}
 use Rattle.blocks.specs.Record.{mostInputs, padded, registerOf, exitWord, ends, firstWords, secondWords}
@@ -32,7 +31,6 @@ use Rattle.corners.specs.Good.{Sound}
 
 kind-small : (e : End) → kindNumber e < 2 ^ 64
 kind-small Exit = omega arith
-kind-small DivisionByZero = omega arith
 kind-small BadPc = omega arith
 kind-small BadWord = omega arith
 kind-small BadAddress = omega arith
@@ -56,7 +54,6 @@ Small v = (v .low < 2 ^ 64) × (v .high < 2 ^ 64)
 
 end-small : (e : End) (v : Interval) → Small v → (reasonWord e < 2 ^ 64) × Small (exitWord e (v .low) ⋯ exitWord e (v .high))
 end-small Exit v h = (omega arith, h)
-end-small DivisionByZero v h = omega arith
 end-small BadPc v h = omega arith
 end-small BadWord v h = omega arith
 end-small BadAddress v h = omega arith

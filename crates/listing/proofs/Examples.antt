@@ -18,7 +18,7 @@ use Rattle.listing.specs.Listing.{Path, pathOf, splitBy, moveBy, moveFro
 use Rattle.listing.specs.declared.Reason.the-variants.{BothOpen, Multiplier, Divisor, DivisorOpen}
 use Rattle.listing.specs.declared.Reason.the-variants.{Quotients, BaseOpen, CallOpen}
 use Rattle.listing.specs.declared.End.{End}
-use Rattle.listing.specs.declared.End.the-variants.{Exit, DivisionByZero, BadPc, BadWord, BadAddress}
+use Rattle.listing.specs.declared.End.the-variants.{Exit, BadPc, BadWord, BadAddress}
 use Rattle.listing.specs.declared.End.the-variants.{BadCall, StepLimit, NotFollowed, TraceFull}
 
 abbrev top : ℕ
@@ -46,7 +46,7 @@ abbrev pub example : List ℕ → List ℕ → ℕ → Box → ℕ → List Path
 example c m l b n ps =
     (record { code = c; memory = m ++ replicate (512 - length m) 0; limit = l; box = b; entries = n }, ps)
 
--- kinds 1 to 7
+-- kinds 1 and 3 to 7
 abbrev pub endings : List (Job × List Path)
 endings =
     -- exit with an open value
@@ -58,16 +58,6 @@ endings =
     ∷ example (0x05D00893 ∷ 0x00000073 ∷ [])
     [] 20 [] 40
     (path Exit 4 1 [] 0 ((17, 93 ⋯ 93) ∷ [])
-    ∷ [])
-    -- DIVU by 0
-    ∷ example (reads (0x0202D533 ∷ []))
-    [] 20 ((3 ⋯ 6) ∷ []) 40
-    (path DivisionByZero 16 4 ((3 ⋯ 6) ∷ []) 1 ((5, 3 ⋯ 6) ∷ (10, 8 ⋯ 8) ∷ (12, 8 ⋯ 8) ∷ (17, 63 ⋯ 63) ∷ [])
-    ∷ [])
-    -- REMU by 0
-    ∷ example (reads (0x0202F533 ∷ []))
-    [] 20 ((3 ⋯ 6) ∷ []) 40
-    (path DivisionByZero 16 4 ((3 ⋯ 6) ∷ []) 1 ((5, 3 ⋯ 6) ∷ (10, 8 ⋯ 8) ∷ (12, 8 ⋯ 8) ∷ (17, 63 ⋯ 63) ∷ [])
     ∷ [])
     -- pc runs beyond the code
     ∷ example (0x00100293 ∷ [])
@@ -782,7 +772,7 @@ same-register =
     -- SUB of one register twice, then DIVU
     ∷ example (reads (0x40528333 ∷ 0x0262D533 ∷ []))
     [] 20 ((3 ⋯ 6) ∷ []) 40
-    (path DivisionByZero 20 5 ((3 ⋯ 6) ∷ []) 1 ((5, 3 ⋯ 6) ∷ (10, 8 ⋯ 8) ∷ (12, 8 ⋯ 8) ∷ (17, 63 ⋯ 63) ∷ [])
+    (path Exit 28 7 ((3 ⋯ 6) ∷ []) 1 ((5, 3 ⋯ 6) ∷ (10, top ⋯ top) ∷ (12, 8 ⋯ 8) ∷ (17, 93 ⋯ 93) ∷ [])
     ∷ [])
     -- SUB of one register twice, then a fork
     ∷ example (reads (0x40528333 ∷ 0x00530313 ∷ 0x0062B533 ∷ []))
@@ -960,11 +950,6 @@ same-otherwise =
     [] 20 ((5 ⋯ 5) ∷ []) 40
     (path Exit 28 6 ((5 ⋯ 5) ∷ []) 1 ((5, 5 ⋯ 5) ∷ (10, 8 ⋯ 8) ∷ (12, 8 ⋯ 8) ∷ (17, 93 ⋯ 93) ∷ [])
     ∷ [])
-    -- DIVU of one register twice that is 0
-    ∷ example (reads (0x0252D533 ∷ []))
-    [] 20 ((0 ⋯ 0) ∷ []) 40
-    (path DivisionByZero 16 4 ((0 ⋯ 0) ∷ []) 1 ((10, 8 ⋯ 8) ∷ (12, 8 ⋯ 8) ∷ (17, 63 ⋯ 63) ∷ [])
-    ∷ [])
     -- MUL of one register twice where a fork fixed it
     ∷ example (reads (0x00500313 ∷ 0x00628263 ∷ 0x02528533 ∷ []))
     [] 20 ((3 ⋯ 6) ∷ []) 40
@@ -996,6 +981,223 @@ same-otherwise =
     ∷ [])
     ∷ []
 
+-- DIVU and REMU by a fixed 0
+abbrev pub by-zero : List (Job × List Path)
+by-zero =
+    -- DIVU by register 0
+    example (reads (0x0202D533 ∷ []))
+    [] 20 ((3 ⋯ 6) ∷ []) 40
+    (path Exit 24 6 ((3 ⋯ 6) ∷ []) 1 ((5, 3 ⋯ 6) ∷ (10, top ⋯ top) ∷ (12, 8 ⋯ 8) ∷ (17, 93 ⋯ 93) ∷ [])
+    ∷ [])
+    -- REMU by register 0
+    ∷ example (reads (0x0202F533 ∷ []))
+    [] 20 ((3 ⋯ 6) ∷ []) 40
+    (path Exit 24 6 ((3 ⋯ 6) ∷ []) 1 ((5, 3 ⋯ 6) ∷ (10, 3 ⋯ 6) ∷ (12, 8 ⋯ 8) ∷ (17, 93 ⋯ 93) ∷ [])
+    ∷ [])
+    -- DIVU by a register that holds 0
+    ∷ example (reads (0x0262D533 ∷ []))
+    [] 20 ((3 ⋯ 6) ∷ []) 40
+    (path Exit 24 6 ((3 ⋯ 6) ∷ []) 1 ((5, 3 ⋯ 6) ∷ (10, top ⋯ top) ∷ (12, 8 ⋯ 8) ∷ (17, 93 ⋯ 93) ∷ [])
+    ∷ [])
+    -- REMU by a register that holds 0
+    ∷ example (reads (0x0262F533 ∷ []))
+    [] 20 ((3 ⋯ 6) ∷ []) 40
+    (path Exit 24 6 ((3 ⋯ 6) ∷ []) 1 ((5, 3 ⋯ 6) ∷ (10, 3 ⋯ 6) ∷ (12, 8 ⋯ 8) ∷ (17, 93 ⋯ 93) ∷ [])
+    ∷ [])
+    -- DIVU of a fixed value by 0
+    ∷ example (reads (0x0202D533 ∷ []))
+    [] 20 ((5 ⋯ 5) ∷ []) 40
+    (path Exit 24 6 ((5 ⋯ 5) ∷ []) 1 ((5, 5 ⋯ 5) ∷ (10, top ⋯ top) ∷ (12, 8 ⋯ 8) ∷ (17, 93 ⋯ 93) ∷ [])
+    ∷ [])
+    -- REMU of a fixed value by 0
+    ∷ example (reads (0x0202F533 ∷ []))
+    [] 20 ((5 ⋯ 5) ∷ []) 40
+    (path Exit 24 6 ((5 ⋯ 5) ∷ []) 1 ((5, 5 ⋯ 5) ∷ (10, 5 ⋯ 5) ∷ (12, 8 ⋯ 8) ∷ (17, 93 ⋯ 93) ∷ [])
+    ∷ [])
+    -- DIVU of register 0 by 0
+    ∷ example (reads (0x02605533 ∷ []))
+    [] 20 ((3 ⋯ 6) ∷ []) 40
+    (path Exit 24 6 ((3 ⋯ 6) ∷ []) 1 ((5, 3 ⋯ 6) ∷ (10, top ⋯ top) ∷ (12, 8 ⋯ 8) ∷ (17, 93 ⋯ 93) ∷ [])
+    ∷ [])
+    -- REMU of register 0 by 0
+    ∷ example (reads (0x02607533 ∷ []))
+    [] 20 ((3 ⋯ 6) ∷ []) 40
+    (path Exit 24 6 ((3 ⋯ 6) ∷ []) 1 ((5, 3 ⋯ 6) ∷ (12, 8 ⋯ 8) ∷ (17, 93 ⋯ 93) ∷ [])
+    ∷ [])
+    -- DIVU of one register twice that is 0
+    ∷ example (reads (0x0252D533 ∷ []))
+    [] 20 ((0 ⋯ 0) ∷ []) 40
+    (path Exit 24 6 ((0 ⋯ 0) ∷ []) 1 ((10, top ⋯ top) ∷ (12, 8 ⋯ 8) ∷ (17, 93 ⋯ 93) ∷ [])
+    ∷ [])
+    -- REMU of one register twice that is 0
+    ∷ example (reads (0x0252F533 ∷ []))
+    [] 20 ((0 ⋯ 0) ∷ []) 40
+    (path Exit 24 6 ((0 ⋯ 0) ∷ []) 1 ((12, 8 ⋯ 8) ∷ (17, 93 ⋯ 93) ∷ [])
+    ∷ [])
+    -- REMU of the highest values by 0
+    ∷ example (reads (0x0202F533 ∷ []))
+    [] 20 (((top - 3) ⋯ top) ∷ []) 40
+    (path Exit 24 6 (((top - 3) ⋯ top) ∷ []) 1 ((5, (top - 3) ⋯ top) ∷ (10, (top - 3) ⋯ top) ∷ (12, 8 ⋯ 8)
+    ∷ (17, 93 ⋯ 93) ∷ [])
+    ∷ [])
+    -- REMU of a falling value by 0
+    ∷ example (reads (0x40500333 ∷ 0x02037533 ∷ []))
+    [] 20 ((1 ⋯ 4) ∷ []) 40
+    (path Exit 28 7 ((1 ⋯ 4) ∷ []) 1 ((5, 1 ⋯ 4) ∷ (6, (top - 3) ⋯ top) ∷ (10, (top - 3) ⋯ top) ∷ (12, 8 ⋯ 8)
+    ∷ (17, 93 ⋯ 93) ∷ [])
+    ∷ [])
+    -- REMU by 0 into the dividend
+    ∷ example (reads (0x0202F2B3 ∷ 0x00128513 ∷ []))
+    [] 20 ((3 ⋯ 6) ∷ []) 40
+    (path Exit 28 7 ((3 ⋯ 6) ∷ []) 1 ((5, 3 ⋯ 6) ∷ (10, 4 ⋯ 7) ∷ (12, 8 ⋯ 8) ∷ (17, 93 ⋯ 93) ∷ [])
+    ∷ [])
+    -- REMU by 0 into the divisor
+    ∷ example (reads (0x40528333 ∷ 0x0262F333 ∷ 0x00130513 ∷ []))
+    [] 20 ((3 ⋯ 6) ∷ []) 40
+    (path Exit 32 8 ((3 ⋯ 6) ∷ []) 1 ((5, 3 ⋯ 6) ∷ (6, 3 ⋯ 6) ∷ (10, 4 ⋯ 7) ∷ (12, 8 ⋯ 8) ∷ (17, 93 ⋯ 93) ∷ [])
+    ∷ [])
+    -- a divisor that BEQ fixed at 0
+    ∷ example (reads (0x00028463 ∷ 0x0080006F ∷ 0x02515533 ∷ []))
+    [] 20 ((0 ⋯ 2) ∷ []) 40
+    (path Exit 32 7 ((0 ⋯ 0) ∷ []) 1 ((10, top ⋯ top) ∷ (12, 8 ⋯ 8) ∷ (17, 93 ⋯ 93) ∷ [])
+    ∷ path Exit 32 7 ((1 ⋯ 2) ∷ []) 1 ((5, 1 ⋯ 2) ∷ (10, 8 ⋯ 8) ∷ (12, 8 ⋯ 8) ∷ (17, 93 ⋯ 93) ∷ [])
+    ∷ [])
+    -- the same, of an open value
+    ∷ example (reads (0x00000513 ∷ 0x00800593 ∷ 0x00000073 ∷ 0x00803383 ∷ 0x00028463 ∷ 0x0080006F ∷ 0x0253F533 ∷ []))
+    [] 20 ((0 ⋯ 2) ∷ (3 ⋯ 4) ∷ []) 40
+    (path Exit 48 11 ((0 ⋯ 0) ∷ (3 ⋯ 4) ∷ []) 2 ((7, 3 ⋯ 4) ∷ (10, 3 ⋯ 4) ∷ (11, 8 ⋯ 8) ∷ (12, 8 ⋯ 8) ∷ (17, 93 ⋯ 93)
+    ∷ [])
+    ∷ path Exit 48 11 ((1 ⋯ 2) ∷ (3 ⋯ 4) ∷ []) 2 ((5, 1 ⋯ 2) ∷ (7, 3 ⋯ 4) ∷ (10, 8 ⋯ 8) ∷ (11, 8 ⋯ 8) ∷ (12, 8 ⋯ 8)
+    ∷ (17, 93 ⋯ 93) ∷ [])
+    ∷ [])
+    -- a divisor that SLTU fixed at 1 or at 0
+    ∷ example (reads (0x00500393 ∷ 0x0072B333 ∷ 0x0262F533 ∷ []))
+    [] 20 ((3 ⋯ 6) ∷ []) 40
+    (path Exit 32 8 ((3 ⋯ 3) ∷ []) 1 ((5, 3 ⋯ 3) ∷ (6, 1 ⋯ 1) ∷ (7, 5 ⋯ 5) ∷ (12, 8 ⋯ 8) ∷ (17, 93 ⋯ 93) ∷ [])
+    ∷ path Exit 32 8 ((4 ⋯ 4) ∷ []) 1 ((5, 4 ⋯ 4) ∷ (6, 1 ⋯ 1) ∷ (7, 5 ⋯ 5) ∷ (12, 8 ⋯ 8) ∷ (17, 93 ⋯ 93) ∷ [])
+    ∷ path Exit 32 8 ((5 ⋯ 6) ∷ []) 1 ((5, 5 ⋯ 6) ∷ (7, 5 ⋯ 5) ∷ (10, 5 ⋯ 6) ∷ (12, 8 ⋯ 8) ∷ (17, 93 ⋯ 93) ∷ [])
+    ∷ [])
+    -- DIVU by a divisor that may be 0
+    ∷ example (reads (0x02515533 ∷ []))
+    [] 20 ((0 ⋯ 3) ∷ []) 40
+    (path (NotFollowed DivisorOpen) 16 4 ((0 ⋯ 3) ∷ []) 1 ((5, 0 ⋯ 3) ∷ (10, 8 ⋯ 8) ∷ (12, 8 ⋯ 8) ∷ (17, 63 ⋯ 63) ∷ [])
+    ∷ [])
+    ∷ []
+
+-- what DIVU and REMU by 0 give, used
+abbrev pub by-zero-used : List (Job × List Path)
+by-zero-used =
+    -- REMU by 0, then SLTU
+    example (reads (0x0202F3B3 ∷ 0x00500313 ∷ 0x0063B533 ∷ []))
+    [] 20 ((3 ⋯ 6) ∷ []) 40
+    (path Exit 32 8 ((3 ⋯ 4) ∷ []) 1 ((5, 3 ⋯ 4) ∷ (6, 5 ⋯ 5) ∷ (7, 3 ⋯ 4) ∷ (10, 1 ⋯ 1) ∷ (12, 8 ⋯ 8) ∷ (17, 93 ⋯ 93)
+    ∷ [])
+    ∷ path Exit 32 8 ((5 ⋯ 6) ∷ []) 1 ((5, 5 ⋯ 6) ∷ (6, 5 ⋯ 5) ∷ (7, 5 ⋯ 6) ∷ (12, 8 ⋯ 8) ∷ (17, 93 ⋯ 93) ∷ [])
+    ∷ [])
+    -- REMU by 0, then BEQ
+    ∷ example (reads (0x0202F3B3 ∷ 0x00500313 ∷ 0x00638463 ∷ 0x00028513 ∷ []))
+    [] 20 ((3 ⋯ 6) ∷ []) 40
+    (path Exit 36 9 ((3 ⋯ 4) ∷ []) 1 ((5, 3 ⋯ 4) ∷ (6, 5 ⋯ 5) ∷ (7, 3 ⋯ 4) ∷ (10, 3 ⋯ 4) ∷ (12, 8 ⋯ 8) ∷ (17, 93 ⋯ 93)
+    ∷ [])
+    ∷ path Exit 36 8 ((5 ⋯ 5) ∷ []) 1 ((5, 5 ⋯ 5) ∷ (6, 5 ⋯ 5) ∷ (7, 5 ⋯ 5) ∷ (10, 8 ⋯ 8) ∷ (12, 8 ⋯ 8) ∷ (17, 93 ⋯ 93)
+    ∷ [])
+    ∷ path Exit 36 9 ((6 ⋯ 6) ∷ []) 1 ((5, 6 ⋯ 6) ∷ (6, 5 ⋯ 5) ∷ (7, 6 ⋯ 6) ∷ (10, 6 ⋯ 6) ∷ (12, 8 ⋯ 8) ∷ (17, 93 ⋯ 93)
+    ∷ [])
+    ∷ [])
+    -- REMU by 0, then a sum that wraps
+    ∷ example (reads (0x0202F3B3 ∷ 0xFFC38513 ∷ []))
+    [] 20 ((3 ⋯ 6) ∷ []) 40
+    (path Exit 28 7 ((3 ⋯ 3) ∷ []) 1 ((5, 3 ⋯ 3) ∷ (7, 3 ⋯ 3) ∷ (10, top ⋯ top) ∷ (12, 8 ⋯ 8) ∷ (17, 93 ⋯ 93) ∷ [])
+    ∷ path Exit 28 7 ((4 ⋯ 6) ∷ []) 1 ((5, 4 ⋯ 6) ∷ (7, 4 ⋯ 6) ∷ (10, 0 ⋯ 2) ∷ (12, 8 ⋯ 8) ∷ (17, 93 ⋯ 93) ∷ [])
+    ∷ [])
+    -- REMU by 0, then a cut of its dividend
+    ∷ example (reads (0x0202F3B3 ∷ 0x00500313 ∷ 0x0062BE33 ∷ 0x00038513 ∷ []))
+    [] 20 ((3 ⋯ 6) ∷ []) 40
+    (path Exit 36 9 ((3 ⋯ 4) ∷ []) 1 ((5, 3 ⋯ 4) ∷ (6, 5 ⋯ 5) ∷ (7, 3 ⋯ 4) ∷ (10, 3 ⋯ 4) ∷ (12, 8 ⋯ 8) ∷ (17, 93 ⋯ 93)
+    ∷ (28, 1 ⋯ 1) ∷ [])
+    ∷ path Exit 36 9 ((5 ⋯ 6) ∷ []) 1 ((5, 5 ⋯ 6) ∷ (6, 5 ⋯ 5) ∷ (7, 5 ⋯ 6) ∷ (10, 5 ⋯ 6) ∷ (12, 8 ⋯ 8) ∷ (17, 93 ⋯ 93)
+    ∷ [])
+    ∷ [])
+    -- REMU by 0, then its dividend added
+    ∷ example (reads (0x0202F3B3 ∷ 0x00728533 ∷ []))
+    [] 20 ((3 ⋯ 6) ∷ []) 40
+    (path (NotFollowed BothOpen) 20 5 ((3 ⋯ 6) ∷ []) 1 ((5, 3 ⋯ 6) ∷ (7, 3 ⋯ 6) ∷ (10, 8 ⋯ 8) ∷ (12, 8 ⋯ 8)
+    ∷ (17, 63 ⋯ 63) ∷ [])
+    ∷ [])
+    -- REMU by 0, then DIVU by it
+    ∷ example (reads (0x0202F3B3 ∷ 0x0272D533 ∷ []))
+    [] 20 ((3 ⋯ 6) ∷ []) 40
+    (path (NotFollowed DivisorOpen) 20 5 ((3 ⋯ 6) ∷ []) 1 ((5, 3 ⋯ 6) ∷ (7, 3 ⋯ 6) ∷ (10, 8 ⋯ 8) ∷ (12, 8 ⋯ 8)
+    ∷ (17, 63 ⋯ 63) ∷ [])
+    ∷ [])
+    -- REMU by 0, then LD
+    ∷ example (reads (0x0202F3B3 ∷ 0x0003B503 ∷ []))
+    [] 20 ((3 ⋯ 6) ∷ []) 40
+    (path (NotFollowed BaseOpen) 20 5 ((3 ⋯ 6) ∷ []) 1 ((5, 3 ⋯ 6) ∷ (7, 3 ⋯ 6) ∷ (10, 8 ⋯ 8) ∷ (12, 8 ⋯ 8)
+    ∷ (17, 63 ⋯ 63) ∷ [])
+    ∷ [])
+    -- DIVU by 0, then SLTU
+    ∷ example (reads (0x0202D333 ∷ 0x0062B533 ∷ []))
+    [] 20 (((top - 2) ⋯ top) ∷ []) 40
+    (path Exit 28 7 (((top - 2) ⋯ (top - 1)) ∷ []) 1 ((5, (top - 2) ⋯ (top - 1)) ∷ (6, top ⋯ top) ∷ (10, 1 ⋯ 1)
+    ∷ (12, 8 ⋯ 8) ∷ (17, 93 ⋯ 93) ∷ [])
+    ∷ path Exit 28 7 ((top ⋯ top) ∷ []) 1 ((5, top ⋯ top) ∷ (6, top ⋯ top) ∷ (12, 8 ⋯ 8) ∷ (17, 93 ⋯ 93) ∷ [])
+    ∷ [])
+    -- DIVU by 0, then ADD
+    ∷ example (reads (0x0202D333 ∷ 0x00530533 ∷ []))
+    [] 20 ((0 ⋯ 3) ∷ []) 40
+    (path Exit 28 7 ((0 ⋯ 0) ∷ []) 1 ((6, top ⋯ top) ∷ (10, top ⋯ top) ∷ (12, 8 ⋯ 8) ∷ (17, 93 ⋯ 93) ∷ [])
+    ∷ path Exit 28 7 ((1 ⋯ 3) ∷ []) 1 ((5, 1 ⋯ 3) ∷ (6, top ⋯ top) ∷ (10, 0 ⋯ 2) ∷ (12, 8 ⋯ 8) ∷ (17, 93 ⋯ 93) ∷ [])
+    ∷ [])
+    -- DIVU by 0, then DIVU by it
+    ∷ example (reads (0x0202D333 ∷ 0x0262D533 ∷ []))
+    [] 20 ((3 ⋯ 6) ∷ []) 40
+    (path (NotFollowed Divisor) 20 5 ((3 ⋯ 6) ∷ []) 1 ((5, 3 ⋯ 6) ∷ (6, top ⋯ top) ∷ (10, 8 ⋯ 8) ∷ (12, 8 ⋯ 8)
+    ∷ (17, 63 ⋯ 63) ∷ [])
+    ∷ [])
+    -- DIVU by 0, then LD
+    ∷ example (reads (0x0202D333 ∷ 0x00033503 ∷ []))
+    [] 20 ((3 ⋯ 6) ∷ []) 40
+    (path BadAddress 20 5 ((3 ⋯ 6) ∷ []) 1 ((5, 3 ⋯ 6) ∷ (6, top ⋯ top) ∷ (10, 8 ⋯ 8) ∷ (12, 8 ⋯ 8) ∷ (17, 63 ⋯ 63)
+    ∷ [])
+    ∷ [])
+    -- DIVU by 0, then LD from 0
+    ∷ example (reads (0x0202D333 ∷ 0x00133503 ∷ []))
+    [] 20 ((3 ⋯ 6) ∷ []) 40
+    (path Exit 28 7 ((3 ⋯ 6) ∷ []) 1 ((5, 3 ⋯ 6) ∷ (6, top ⋯ top) ∷ (10, 3 ⋯ 6) ∷ (12, 8 ⋯ 8) ∷ (17, 93 ⋯ 93) ∷ [])
+    ∷ [])
+    ∷ []
+
+-- DIVU and REMU by 0 and the entries
+abbrev pub by-zero-entries : List (Job × List Path)
+by-zero-entries =
+    -- DIVU by 0, no entry left
+    example (reads (0x0202D533 ∷ []))
+    [] 20 ((3 ⋯ 6) ∷ []) 5
+    (path TraceFull 16 4 ((3 ⋯ 6) ∷ []) 1 ((5, 3 ⋯ 6) ∷ (10, 8 ⋯ 8) ∷ (12, 8 ⋯ 8) ∷ (17, 63 ⋯ 63) ∷ [])
+    ∷ [])
+    -- DIVU by 0, one entry left
+    ∷ example (reads (0x0202D533 ∷ []))
+    [] 20 ((3 ⋯ 6) ∷ []) 6
+    (path TraceFull 20 5 ((3 ⋯ 6) ∷ []) 1 ((5, 3 ⋯ 6) ∷ (10, top ⋯ top) ∷ (12, 8 ⋯ 8) ∷ (17, 63 ⋯ 63) ∷ [])
+    ∷ [])
+    -- REMU by 0, no entry left
+    ∷ example (reads (0x0202F533 ∷ []))
+    [] 20 ((3 ⋯ 6) ∷ []) 5
+    (path TraceFull 16 4 ((3 ⋯ 6) ∷ []) 1 ((5, 3 ⋯ 6) ∷ (10, 8 ⋯ 8) ∷ (12, 8 ⋯ 8) ∷ (17, 63 ⋯ 63) ∷ [])
+    ∷ [])
+    -- REMU by 0, one entry left
+    ∷ example (reads (0x0202F533 ∷ []))
+    [] 20 ((3 ⋯ 6) ∷ []) 6
+    (path TraceFull 20 5 ((3 ⋯ 6) ∷ []) 1 ((5, 3 ⋯ 6) ∷ (10, 3 ⋯ 6) ∷ (12, 8 ⋯ 8) ∷ (17, 63 ⋯ 63) ∷ [])
+    ∷ [])
+    -- by 0 into register 0, no entry left
+    ∷ example (reads (0x0202D033 ∷ 0x0202F033 ∷ []))
+    [] 20 ((3 ⋯ 6) ∷ []) 5
+    (path TraceFull 24 6 ((3 ⋯ 6) ∷ []) 1 ((5, 3 ⋯ 6) ∷ (10, 8 ⋯ 8) ∷ (12, 8 ⋯ 8) ∷ (17, 63 ⋯ 63) ∷ [])
+    ∷ [])
+    ∷ []
+
 abbrev pub table : List (Job × List Path)
 table =
     endings
@@ -1013,6 +1215,9 @@ table =
     ++ same-in-loops
     ++ same-entries
     ++ same-otherwise
+    ++ by-zero
+    ++ by-zero-used
+    ++ by-zero-entries
 
 abbrev listed : Job × List Path → List Path
 listed x = listing (x .0)

@@ -1,5 +1,6 @@
 -- How a path ends: document 01's ten points, in its order. The first that applies decides, with the first reason named there.
 -- Point 8 is as document 02, No. 1, has it: with one open register twice SUB, SLTU and BEQ go on; ADD and MUL do not.
+-- Points 7 and 8 are as No. 3 has them: a divisor 0 ends no path.
 use Prim.Native.Nat.{ℕ, _+_, _-_, _%_}
 use mathlib.Core.Bool.{Bool, true, false, cond, not, _&&_, _||_}
 use mathlib.Core.List.{List, [], _∷_, _++_}
@@ -24,8 +25,7 @@ use Rattle.listing.specs.declared.Sorting.{Sorting}
 use Rattle.listing.specs.declared.Sorting.the-variants.{Operates, Compares, Nothing}
 use Rattle.listing.specs.declared.Reason.the-variants.{BothOpen, Multiplier, Divisor, DivisorOpen, Quotients, BaseOpen, CallOpen}
 use Rattle.listing.specs.declared.End.{End}
-use Rattle.listing.specs.declared.End.the-variants.{Exit, DivisionByZero, BadPc, BadWord, BadAddress, BadCall, StepLimit, NotFollowed}
-use Rattle.listing.specs.declared.End.the-variants.{TraceFull}
+use Rattle.listing.specs.declared.End.the-variants.{Exit, BadPc, BadWord, BadAddress, BadCall, StepLimit, NotFollowed, TraceFull}
 
 -- a point of the order: whether it applies, and the end that it gives
 pub record Point : Type 0 where
@@ -119,26 +119,15 @@ module _ (v : View) where
   abbrev pub twoOpen : Operand → Operand → Bool
   twoOpen a b = bothOpen a b && not (sameRegister a b)
 
-  abbrev pub zeroDivisor : Operand → Bool
-  zeroDivisor b = eqb (operandValue b) 0
-
-  -- a fixed multiplier a that is neither 0 nor a power of two, and b open
-  abbrev pub oddMultiplier : Operand → Operand → Bool
-  oddMultiplier a b = operandOpen b && not (eqb (operandValue a) 0 || isPower (operandValue a))
-
-  -- a fixed divisor b that is no power of two, and a open
-  abbrev pub oddDivisor : Operand → Operand → Bool
-  oddDivisor a b = operandOpen a && not (isPower (operandValue b))
+  -- a fixed multiplier or divisor a that is neither 0 nor a power of two, and b open
+  abbrev pub oddFactor : Operand → Operand → Bool
+  oddFactor a b = operandOpen b && not (eqb (operandValue a) 0 || isPower (operandValue a))
 
   -- the quotients at the open value's low and high are more than 1 apart: the quotient rises with the value
   abbrev pub farApart : Operation → Operand → Operand → Bool
   farApart op a b =
       let q : State → ℕ = λ s. sortOf op (operand a (s .registers)) (operand b (s .registers)) in
       ltb (v .lowest q + 1) (v .highest q)
-
-  -- point 7: the divisor is open, or is 0
-  abbrev pub divisorPoints : Operand → List Point
-  divisorPoints b = (operandOpen b ⇒ NotFollowed DivisorOpen) ∷ (zeroDivisor b ⇒ DivisionByZero) ∷ []
 
   -- points 7 and 8 of an operation on two operands
   unfoldable pub operationPoints : Operation → Operand → Operand → List Point
@@ -147,12 +136,12 @@ module _ (v : View) where
   operationPoints Sltu a b = (twoOpen a b ⇒ NotFollowed BothOpen) ∷ []
   operationPoints Mul a b =
       (bothOpen a b ⇒ NotFollowed BothOpen)
-      ∷ (oddMultiplier a b ⇒ NotFollowed Multiplier)
-      ∷ (oddMultiplier b a ⇒ NotFollowed Multiplier)
+      ∷ (oddFactor a b ⇒ NotFollowed Multiplier)
+      ∷ (oddFactor b a ⇒ NotFollowed Multiplier)
       ∷ (farApart Mul a b ⇒ NotFollowed Quotients)
       ∷ []
-  operationPoints Divu a b = divisorPoints b ++ ((oddDivisor a b ⇒ NotFollowed Divisor) ∷ [])
-  operationPoints Remu a b = divisorPoints b ++ ((farApart Remu a b ⇒ NotFollowed Quotients) ∷ [])
+  operationPoints Divu a b = (operandOpen b ⇒ NotFollowed DivisorOpen) ∷ (oddFactor b a ⇒ NotFollowed Divisor) ∷ []
+  operationPoints Remu a b = (operandOpen b ⇒ NotFollowed DivisorOpen) ∷ (farApart Remu a b ⇒ NotFollowed Quotients) ∷ []
 
   -- points 7 and 8, by what an instruction sorts by
   unfoldable pub operandPoints : Sorting → List Point

@@ -33,13 +33,14 @@ pub record Group : Type 0 where
 unfoldable pub after : Job → ℕ → Choice → State
 after j n c = run (j .code) c n (start (j .memory))
 
--- What a fork rule sorts by: the wrap of a sum or a difference, the quotient of MUL and REMU, the outcome of a comparison.
+-- What a fork rule sorts by: the wrap of a sum or a difference, the quotient of MUL and REMU, the outcome of a comparison. DIVU never
+-- forks, nor does REMU by 0 (document 02, No. 3).
 unfoldable pub sortOf : Operation → ℕ → ℕ → ℕ
 sortOf Add a b = (a + b) / size
 sortOf Sub a b = cond (ltb a b) 1 0
 sortOf Mul a b = a * b / size
 sortOf Divu a b = 0
-sortOf Remu a b = a / b
+sortOf Remu a b = cond (eqb b 0) 0 (a / b)
 sortOf Sltu a b = cond (ltb a b) 1 0
 
 -- less, equal, greater

@@ -1,10 +1,9 @@
--- Document 01's numbers for how a path ends.
+-- Document 01's numbers for how a path ends. Kind 2, division by 0, no longer occurs (document 02, No. 3): its number stays unused.
 use Prim.Native.Nat.{ℕ}
 use Rattle.listing.specs.declared.Reason.{Reason}
 use Rattle.listing.specs.declared.Reason.the-variants.{BothOpen, Multiplier, Divisor, DivisorOpen, Quotients, BaseOpen, CallOpen}
 use Rattle.listing.specs.declared.End.{End}
-use Rattle.listing.specs.declared.End.the-variants.{Exit, DivisionByZero, BadPc, BadWord, BadAddress, BadCall, StepLimit, NotFollowed}
-use Rattle.listing.specs.declared.End.the-variants.{TraceFull}
+use Rattle.listing.specs.declared.End.the-variants.{Exit, BadPc, BadWord, BadAddress, BadCall, StepLimit, NotFollowed, TraceFull}
 
 abbrev pub reasonNumber : Reason → ℕ
 reasonNumber BothOpen = 1
@@ -17,7 +16,6 @@ reasonNumber CallOpen = 7
 
 abbrev pub kindNumber : End → ℕ
 kindNumber Exit = 1
-kindNumber DivisionByZero = 2
 kindNumber BadPc = 3
 kindNumber BadWord = 4
 kindNumber BadAddress = 5
@@ -30,7 +28,6 @@ kindNumber TraceFull = 9
 abbrev pub reasonWord : End → ℕ
 reasonWord (NotFollowed r) = reasonNumber r
 reasonWord Exit = 0
-reasonWord DivisionByZero = 0
 reasonWord BadPc = 0
 reasonWord BadWord = 0
 reasonWord BadAddress = 0

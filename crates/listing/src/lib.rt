@@ -47,7 +47,6 @@ pub enum Reason {
 
 pub enum End {
     Exit,
-    DivisionByZero,
     BadPc,
     BadWord,
     BadAddress,
@@ -118,7 +117,6 @@ pub fn kind_number(e: End) -> u64
 {
     match e {
         End::Exit => 1,
-        End::DivisionByZero => 2,
         End::BadPc => 3,
         End::BadWord => 4,
         End::BadAddress => 5,
@@ -151,7 +149,6 @@ pub fn reason_word(e: End) -> u64
     match e {
         End::NotFollowed(r) => reason_number(r),
         End::Exit => 0,
-        End::DivisionByZero => 0,
         End::BadPc => 0,
         End::BadWord => 0,
         End::BadAddress => 0,

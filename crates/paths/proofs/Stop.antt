@@ -1,4 +1,4 @@
--- Where a group ends with a kind from 1 to 6, the plain machine stops with that kind for each of its choices; where it goes on, the
+-- Where a group ends with a kind up to 6, the plain machine stops with that kind for each of its choices; where it goes on, the
 -- plain machine does not stop.
 -- Assumes nothing.
 use mathlib.Core.Path.{_≡_, refl, ap, subst}
@@ -10,7 +10,7 @@ use native.Mathlib.Omega.{arith}
 use lib.Dec.{eqb, ltb}
 use lib.ListN.{getD}
 use lib.IntN.{ℤ}
-use borrow.Author.Tests.{eq-eqb, ne-eqb, le-ltb}
+use borrow.Author.Tests.{eq-eqb, le-ltb}
 use Rattle.boxes.specs.Boxes.{Choice, Box, lows, Inside}
 use Rattle.boxes.proofs.Lists.{by-test}
 use Rattle.boxes.proofs.Choices.{lows-inside}
@@ -23,9 +23,8 @@ use Rattle.riscu.specs.declared.Instruction.the-variants.{Lui, Addi, Register, 
 use Rattle.riscu.specs.declared.Decoded.{Decoded}
 use Rattle.riscu.specs.declared.Decoded.the-variants.{Row, NoRow}
 use Rattle.listing.specs.Group.{Job, Group, after, sortOf, sortingOf, operand, View, viewOf}
-use Rattle.listing.specs.Ending.{Point, _⇒_, first, lastAddress, badAddress, openAt, valueAt, badAccess, operandOpen, operandValue, bothOpen}
-use Rattle.listing.specs.Ending.{twoOpen, zeroDivisor, oddMultiplier, oddDivisor, farApart, operationPoints, operandPoints, addressPoints}
-use Rattle.listing.specs.Ending.{points, needs, endAt, endBy, endOf}
+use Rattle.listing.specs.Ending.{Point, _⇒_, first, lastAddress, badAddress, openAt, valueAt, badAccess, operandOpen, bothOpen, twoOpen}
+use Rattle.listing.specs.Ending.{oddFactor, farApart, operationPoints, operandPoints, addressPoints, points, needs, endAt, endBy, endOf}
 use Rattle.listing.specs.declared.Operand.{Operand}
 use Rattle.listing.specs.declared.Operand.the-variants.{InRegister, Constant}
 use Rattle.listing.specs.declared.Sorting.{Sorting}
@@ -34,12 +33,12 @@ use Rattle.listing.specs.Stop.{viewOfOne, stopDecoded, stopOf}
 use Rattle.listing.specs.Numbers.{kindNumber}
 use Rattle.listing.specs.declared.End.{End}
 use Rattle.listing.specs.declared.End.the-variants.{StepLimit, TraceFull, BadPc, BadWord}
-use Rattle.corners.proofs.Followed.{or-false, closed, lowest-at, operand-at}
+use Rattle.corners.proofs.Followed.{or-false, closed, lowest-at}
 use Rattle.corners.proofs.Corner.{good-uniform}
-use Rattle.corners.specs.Smooth.{DataAddress, Defined, Computes, Completes, Smooth}
+use Rattle.corners.specs.Smooth.{DataAddress, Completes, Smooth}
 use Rattle.corners.specs.Good.{Good}
 
--- an end with a kind from 1 to 6 comes from the second list if it comes from the first
+-- an end with a kind up to 6 comes from the second list if it comes from the first
 record Stops (ps qs : List Point) : Type 0 where
   stops-by : (e : End) → kindNumber e ≤ 6 → first ps ≡ some e → first qs ≡ some e
 
@@ -74,21 +73,14 @@ module _ (s : State) where
   one-closed (InRegister r) = refl
   one-closed (Constant n) = refl
 
-  one-value : (a : Operand) → operandValue (viewOfOne s) a ≡ operand a (s .registers)
-  one-value (InRegister r) = refl
-  one-value (Constant n) = refl
-
   one-not-both : (a b : Operand) → bothOpen (viewOfOne s) a b ≡ false
   one-not-both a b = rw (one-closed b)
 
   one-not-two : (a b : Operand) → twoOpen (viewOfOne s) a b ≡ false
   one-not-two a b = rw (one-not-both a b)
 
-  one-multiplier : (a b : Operand) → oddMultiplier (viewOfOne s) a b ≡ false
-  one-multiplier a b = rw (one-closed b)
-
-  one-divisor : (a b : Operand) → oddDivisor (viewOfOne s) a b ≡ false
-  one-divisor a b = rw (one-closed a)
+  one-factor : (a b : Operand) → oddFactor (viewOfOne s) a b ≡ false
+  one-factor a b = rw (one-closed b)
 
   one-apart : (op : Operation) (a b : Operand) → farApart (viewOfOne s) op a b ≡ false
   one-apart op a b = let q = sortOf op (operand a (s .registers)) (operand b (s .registers)) in le-ltb (q + 1) q (omega arith)
@@ -103,9 +95,6 @@ module _ (j : Job) (g : Group) (c : Choice) (m : Inside c (g .box)) where
   is : (r : ℕ) → openAt v r ≡ false → valueAt v r ≡ reg r state
   is r o = lowest-at j g (reg r) (closed j g (reg r) o) c m
 
-  zero : (b : Operand) → operandOpen v b ≡ false → zeroDivisor v b ≡ zeroDivisor (viewOfOne state) b
-  zero b o = cc (operand-at j g b o c m, one-value state b)
-
   operation-stops : (op : Operation) (a b : Operand) (t : Bool)
       → Stops (operationPoints v op a b ++ ((t ⇒ TraceFull) ∷ [])) (operationPoints (viewOfOne state) op a b)
   unfolding operationPoints
@@ -113,15 +102,13 @@ module _ (j : Job) (g : Group) (c : Choice) (m : Inside c (g .box)) where
   operation-stops Sub a b t = engine (omega arith) (one-not-two state a b) (λ _. full t)
   operation-stops Mul a b t =
       engine (omega arith) (one-not-both state a b) (λ _.
-      engine (omega arith) (one-multiplier state a b) (λ _.
-      engine (omega arith) (one-multiplier state b a) (λ _.
+      engine (omega arith) (one-factor state a b) (λ _.
+      engine (omega arith) (one-factor state b a) (λ _.
       engine (omega arith) (one-apart state Mul a b) (λ _. full t))))
   operation-stops Divu a b t =
-      engine (omega arith) (one-closed state b) (λ o.
-      machine (zero b o) (engine (omega arith) (one-divisor state a b) (λ _. full t)))
+      engine (omega arith) (one-closed state b) (λ _. engine (omega arith) (one-factor state b a) (λ _. full t))
   operation-stops Remu a b t =
-      engine (omega arith) (one-closed state b) (λ o.
-      machine (zero b o) (engine (omega arith) (one-apart state Remu a b) (λ _. full t)))
+      engine (omega arith) (one-closed state b) (λ _. engine (omega arith) (one-apart state Remu a b) (λ _. full t))
   operation-stops Sltu a b t = engine (omega arith) (one-not-two state a b) (λ _. full t)
 
   operands-stop : (x : Sorting) (t : Bool) → Stops (operandPoints v x ++ ((t ⇒ TraceFull) ∷ [])) (operandPoints (viewOfOne state) x)
@@ -179,38 +166,32 @@ good-address : (a : ℕ) → DataAddress a → badAddress a ≡ false
 good-address a (e, l) = rw (eq-eqb (a % 8) 0 e, le-ltb lastAddress a l)
 
 module _ (s : State) where
-  not-zero : (b : Operand) → 0 < operand b (s .registers) → zeroDivisor (viewOfOne s) b ≡ false
-  not-zero b h = rw (one-value s b) (ne-eqb (operand b (s .registers)) 0 (omega arith))
-
-  operation-goes-on : (op : Operation) (a b : Operand) → Defined op (operand b (s .registers))
-      → first (operationPoints (viewOfOne s) op a b) ≡ none
+  operation-goes-on : (op : Operation) (a b : Operand) → first (operationPoints (viewOfOne s) op a b) ≡ none
   unfolding operationPoints first
-  operation-goes-on Add a b h = rw (one-not-both s a b)
-  operation-goes-on Sub a b h = rw (one-not-two s a b)
-  operation-goes-on Mul a b h = rw (one-not-both s a b, one-multiplier s a b, one-multiplier s b a, one-apart s Mul a b)
-  operation-goes-on Divu a b h = rw (one-closed s b, not-zero b h, one-divisor s a b)
-  operation-goes-on Remu a b h = rw (one-closed s b, not-zero b h, one-apart s Remu a b)
-  operation-goes-on Sltu a b h = rw (one-not-two s a b)
+  operation-goes-on Add a b = rw (one-not-both s a b)
+  operation-goes-on Sub a b = rw (one-not-two s a b)
+  operation-goes-on Mul a b = rw (one-not-both s a b, one-factor s a b, one-factor s b a, one-apart s Mul a b)
+  operation-goes-on Divu a b = rw (one-closed s b, one-factor s b a)
+  operation-goes-on Remu a b = rw (one-closed s b, one-apart s Remu a b)
+  operation-goes-on Sltu a b = rw (one-not-two s a b)
 
-  operands-go-on : (x : Sorting) → Computes x s → first (operandPoints (viewOfOne s) x) ≡ none
+  operands-go-on : (x : Sorting) → first (operandPoints (viewOfOne s) x) ≡ none
   unfolding operandPoints first
-  operands-go-on (Operates op a b) h = operation-goes-on op a b h
-  operands-go-on (Compares a b) h = rw (one-not-two s a b)
-  operands-go-on Nothing h = refl
+  operands-go-on (Operates op a b) = operation-goes-on op a b
+  operands-go-on (Compares a b) = rw (one-not-two s a b)
+  operands-go-on Nothing = refl
 
   completes-goes-on : (i : Instruction) → Completes i s → first (points (viewOfOne s) i) ≡ none
   unfolding points addressPoints sortingOf first
-  completes-goes-on (Lui rd imm) h = operands-go-on Nothing tt
-  completes-goes-on (Addi rd rs1 imm) h = operands-go-on (sortingOf (Addi rd rs1 imm)) (h .1)
-  completes-goes-on (Register op rd rs1 rs2) h = operands-go-on (sortingOf (Register op rd rs1 rs2)) (h .1)
-  completes-goes-on (Ld rd rs1 imm) h = rw (good-address (offset rs1 imm s) (h .0)) (operands-go-on Nothing tt)
-  completes-goes-on (Sd rs1 rs2 imm) h = rw (good-address (offset rs1 imm s) (h .0)) (operands-go-on Nothing tt)
-  completes-goes-on (Beq rs1 rs2 imm) h = operands-go-on (sortingOf (Beq rs1 rs2 imm)) (h .1)
-  completes-goes-on (Jal rd imm) h = operands-go-on Nothing tt
-  completes-goes-on (Jalr rd rs1 imm) h = operands-go-on Nothing tt
-  completes-goes-on Ecall h =
-      let r = h .0 in
-      rw (r .0, r .1, r .2, good-address (reg 11 s) (r .3)) (operands-go-on Nothing tt)
+  completes-goes-on (Lui rd imm) h = operands-go-on _
+  completes-goes-on (Addi rd rs1 imm) h = operands-go-on _
+  completes-goes-on (Register op rd rs1 rs2) h = operands-go-on _
+  completes-goes-on (Ld rd rs1 imm) h = rw (good-address (offset rs1 imm s) h) (operands-go-on Nothing)
+  completes-goes-on (Sd rs1 rs2 imm) h = rw (good-address (offset rs1 imm s) h) (operands-go-on Nothing)
+  completes-goes-on (Beq rs1 rs2 imm) h = operands-go-on _
+  completes-goes-on (Jal rd imm) h = operands-go-on _
+  completes-goes-on (Jalr rd rs1 imm) h = operands-go-on _
+  completes-goes-on Ecall h = rw (h .0, h .1, h .2, good-address (reg 11 s) (h .3)) (operands-go-on Nothing)
 
 fetched-goes-on : (code : List ℕ) (s : State) {i : Instruction} → fetch code (s .pc) ≡ Row i → first (points (viewOfOne s) i) ≡ none
     → stopOf code s ≡ none
@@ -231,9 +212,8 @@ smooth-goes-on {j} m s c h =
 record OfMachine (ps : List Point) : Type 0 where
   kind : (e : End) → first ps ≡ some e → kindNumber e ≤ 6
 
-none-left : OfMachine []
-unfolding first
-none-left = record { kind = λ e d. let z : _≡_ {A = ℕ} 0 1 = cc in absurd (omega arith) }
+none-applies : {ps : List Point} → first ps ≡ none → OfMachine ps
+none-applies n = record { kind = λ e d. let z : _≡_ {A = ℕ} 0 1 = cc in absurd (omega arith) }
 
 -- a point that does not apply, and one with such a kind
 passed : {x : End} {t : Bool} {ps : List Point} → t ≡ false → OfMachine ps → OfMachine ((t ⇒ x) ∷ ps)
@@ -250,22 +230,8 @@ lower {x} {t} l h =
     }
 
 module _ (s : State) where
-  operation-of-machine : (op : Operation) (a b : Operand) → OfMachine (operationPoints (viewOfOne s) op a b)
-  unfolding operationPoints
-  operation-of-machine Add a b = passed (one-not-both s a b) none-left
-  operation-of-machine Sub a b = passed (one-not-two s a b) none-left
-  operation-of-machine Mul a b =
-      passed (one-not-both s a b)
-      (passed (one-multiplier s a b) (passed (one-multiplier s b a) (passed (one-apart s Mul a b) none-left)))
-  operation-of-machine Divu a b = passed (one-closed s b) (lower (omega arith) (passed (one-divisor s a b) none-left))
-  operation-of-machine Remu a b = passed (one-closed s b) (lower (omega arith) (passed (one-apart s Remu a b) none-left))
-  operation-of-machine Sltu a b = passed (one-not-two s a b) none-left
-
   operands-of-machine : (x : Sorting) → OfMachine (operandPoints (viewOfOne s) x)
-  unfolding operandPoints
-  operands-of-machine (Operates op a b) = operation-of-machine op a b
-  operands-of-machine (Compares a b) = passed (one-not-two s a b) none-left
-  operands-of-machine Nothing = none-left
+  operands-of-machine x = none-applies (operands-go-on s x)
 
   points-of-machine : (i : Instruction) → OfMachine (points (viewOfOne s) i)
   unfolding points addressPoints

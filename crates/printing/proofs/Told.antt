@@ -12,7 +12,7 @@ use Rattle.boxes.specs.Boxes.{Box, Interval, at, from, lows, highs, _∈_}
 use Rattle.listing.specs.Listing.{Path}
 use Rattle.listing.specs.Numbers.{kindNumber, reasonWord}
 use Rattle.listing.specs.declared.End.{End}
-use Rattle.listing.specs.declared.End.the-variants.{Exit, DivisionByZero, BadPc, BadWord, BadAddress, BadCall, StepLimit, NotFollowed, TraceFull}
+use Rattle.listing.specs.declared.End.the-variants.{Exit, BadPc, BadWord, BadAddress, BadCall, StepLimit, NotFollowed, TraceFull}
 use Rattle.blocks.specs.Block.{wordAt}
 use Rattle.blocks.specs.Layout as place
 use Rattle.blocks.specs.Record.{mostInputs, recordBytes, registerOf, exitWord, recordOf, records}
@@ -45,7 +45,6 @@ ending-told : (e : End) (v : Interval) (kind low high reason : ℕ)
 unfolding endingOf
 ending-told Exit v kind low high reason k l h r = rw (k, l, h)
 ending-told (NotFollowed x) v kind low high reason k l h r = rw (k, r)
-ending-told DivisionByZero v kind low high reason k l h r = rw k
 ending-told BadPc v kind low high reason k l h r = rw k
 ending-told BadWord v kind low high reason k l h r = rw k
 ending-told BadAddress v kind low high reason k l h r = rw k

@@ -7,7 +7,7 @@ use Rattle.boxes.specs.Boxes.{Interval}
 use Rattle.listing.specs.Listing.{Path}
 use Rattle.listing.specs.Numbers.{kindNumber, reasonNumber}
 use Rattle.listing.specs.declared.End.{End}
-use Rattle.listing.specs.declared.End.the-variants.{Exit, DivisionByZero, BadPc, BadWord, BadAddress, BadCall, StepLimit, NotFollowed, TraceFull}
+use Rattle.listing.specs.declared.End.the-variants.{Exit, BadPc, BadWord, BadAddress, BadCall, StepLimit, NotFollowed, TraceFull}
 use Rattle.blocks.specs.Record.{registerOf}
 use Rattle.printing.specs.Printed.{ascii, field, range, firstLine, lineWith}
 
@@ -18,7 +18,6 @@ inputOf v = range (ascii " in ") (v .low) (v .high)
 unfoldable pub endingOf : End → Interval → List ℕ
 endingOf Exit v = range (ascii " exit ") (v .low) (v .high)
 endingOf (NotFollowed r) v = field (ascii " reason ") (reasonNumber r)
-endingOf DivisionByZero v = []
 endingOf BadPc v = []
 endingOf BadWord v = []
 endingOf BadAddress v = []

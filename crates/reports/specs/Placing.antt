@@ -1,5 +1,5 @@
 -- Document 02, No. 2: which path of a report does each row take?
-use Prim.Native.Nat.{ℕ, _+_, _-_, _*_, _/_, _%_, _^_}
+use Prim.Native.Nat.{ℕ, _+_, _*_, _/_, _%_}
 use mathlib.Core.Bool.{Bool, cond, _&&_}
 use mathlib.Core.List.{List, [], _∷_, map}
 use mathlib.Core.Option.{Option, none, some}
@@ -7,6 +7,7 @@ use denote.Ref.{now}
 use lib.Dec.{leb, eqb}
 use lib.ListN.{length, take, drop}
 use Rattle.boxes.specs.Boxes.{at, from}
+use Rattle.riscu.specs.Word.{maxWord}
 use Rattle.riscu.specs.Lent.{LentList}
 use Rattle.blocks.specs.Block.{wordAt, each}
 use Rattle.blocks.specs.Layout as layout
@@ -38,7 +39,7 @@ holds n row bytes = each (between bytes row) 0 n
 
 -- MAX, for a row in no path
 abbrev pub noPath : ℕ
-noPath = 2 ^ 64 - 1
+noPath = maxWord
 
 -- the path number of the first record whose box holds the row, or MAX
 unfoldable pub placing : ℕ → List (List ℕ) → List ℕ → ℕ

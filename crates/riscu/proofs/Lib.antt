@@ -1,5 +1,6 @@
 -- The laws of the plain machine, and those that its code is proved by.
 --     Whole       what every state keeps: 32 registers, 512 memory words, all words, register 0
+--     Division    what DIVU and REMU give by 0
 --     Counters    pc stays a word, and the inputs read are at most the steps
 --     Columns     a product in columns, in any base
 --     Signs       signed numbers of any width, and as 64 bits
@@ -9,6 +10,7 @@
 --     Powers      the powers of two, and the search that finds one
 --     Widths      sign extension, once over the width
 pub mod Whole
+pub mod Division
 pub mod Counters
 pub mod Columns
 pub mod Signs

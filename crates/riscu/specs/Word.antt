@@ -9,6 +9,10 @@ use Rattle.riscu.specs.declared.words.Exponent.the-variants.{Power, NotP
 abbrev pub size : ℕ
 size = 2 ^ 64
 
+-- MAX of the papers: the greatest word
+abbrev pub maxWord : ℕ
+maxWord = size - 1
+
 abbrev pub word : ℕ → ℕ
 word n = n % size
 
@@ -19,7 +23,7 @@ signed width n = cond (ltb n (2 ^ (width - 1))) (pos n) (negsuc (2 ^ width - 1 -
 -- a signed number as a word, in two's complement
 unfoldable pub widen : ℤ → ℕ
 widen (pos n) = word n
-widen (negsuc n) = size - 1 - n
+widen (negsuc n) = maxWord - n
 
 -- which of the lowest `count` powers of two n is: 2^0, 2^1, ..
 unfoldable pub powerBelow : ℕ → ℕ → Exponent

@@ -2,8 +2,10 @@
 ghost use mathlib.Core.Path.{_≡_};
 ghost use mathlib.Core.Bool.{cond};
 ghost use Prim.Native.Nat.{_+_, _-_, _*_, _/_, _%_, _^_, _<_, _≤_};
-ghost use lib.Dec.{ltb};
+ghost use lib.Dec.{ltb, eqb};
 ghost use Rattle.riscu.specs.Word.{size, word, signed, widen, powerOf};
+ghost use Rattle.riscu.specs.Machine.{operate};
+ghost use Rattle.riscu.specs.declared.Operation.the-variants.{Divu, Remu};
 
 // Which power of two a word is, if it is one.
 pub enum Exponent {
@@ -47,15 +49,21 @@ pub fn sub(a: u64, b: u64) -> u64
     std::num::wrapping_add_u64(a, complement)
 }
 
-// A quotient by 0 is 0, and a remainder by 0 is the number itself.
+// How often b goes into a; 0 where b is 0.
 pub fn quotient(a: u64, b: u64) -> u64
-    ensures { λ r. ⌜ r ≡ a / b ⌝ }
+    ensures { λ r. ⌜ r ≡ cond (eqb b 0) 0 (a / b) ⌝ }
 {
     if b == 0 { 0 } else { a / b }
 }
 
-pub(crate) fn remainder(a: u64, b: u64) -> u64
-    ensures { λ r. ⌜ r ≡ a % b ⌝ }
+pub(crate) fn divu(a: u64, b: u64) -> u64
+    ensures { λ r. ⌜ r ≡ operate Divu a b ⌝ }
+{
+    if b == 0 { 18446744073709551615 } else { a / b }
+}
+
+pub(crate) fn remu(a: u64, b: u64) -> u64
+    ensures { λ r. ⌜ r ≡ operate Remu a b ⌝ }
 {
     if b == 0 { a } else { a % b }
 }

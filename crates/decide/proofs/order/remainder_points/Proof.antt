@@ -1,4 +1,4 @@
-use Rattle.decide.proofs.Verdicts.{stops, goes, passes, ends-before, passes-before}
+use Rattle.decide.proofs.Verdicts.{stops, goes, passes}
 use Rattle.listing.specs.Ending.{operationPoints}
 use mathlib.Core.Path.{sym, _∙_}
 use borrow.Author.Needs.{needs}
@@ -7,22 +7,19 @@ use Rattle.decide.proofs.order.remainder_points.Tie as tie
 
 returns : tie.Need-returns
 unfolding operationPoints
-returns c = ends-before _ _ (c .before .before .divisor-points .ensures) (c .enum-told2 .given .1)
+returns c = stops _ (sym (c .before .operand-open .ensures) ∙ c .if1 .taken)
 
 returns-2 : tie.Need-returns-2
 unfolding operationPoints
-returns-2 c = passes-before _ _ (c .before .before .before .before .divisor-points .ensures) (c .before .before .enum-told .given .1) (stops _ (sym (c .before .quotients .ensures) ∙ c .if1 .taken))
+returns-2 c =
+    goes _ _ (sym (c .before .before .before .operand-open .ensures) ∙ c .before .before .if1 .left)
+    (stops _ (sym (c .before .quotients .ensures) ∙ c .if2 .taken))
 
 returns-3 : tie.Need-returns-3
 unfolding operationPoints
-returns-3 c = passes-before _ _ (c .before .before .before .before .divisor-points .ensures) (c .before .before .enum-told .given .1) (goes _ _ (sym (c .before .quotients .ensures) ∙ c .if1 .left) passes)
+returns-3 c =
+    goes _ _ (sym (c .before .before .before .operand-open .ensures) ∙ c .before .before .if1 .left)
+    (goes _ _ (sym (c .before .quotients .ensures) ∙ c .if2 .left) passes)
 
 pub remainder-points-spec : {M : Type 1} → statement M
-remainder-points-spec =
-    tie.close
-    (tie.spec
-    (λ c κs. search needs) (λ c. search needs) (λ c. search needs)
-    returns
-    (λ c κs. search needs)
-    returns-2
-    returns-3)
+remainder-points-spec = tie.close (tie.spec (λ c κs. search needs) returns (λ c κs. search needs) returns-2 returns-3)
