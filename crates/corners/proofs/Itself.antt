@@ -1,20 +1,16 @@
 -- An instruction that names one register twice (document 02, No. 1): SUB, SLTU and BEQ end at none of the points 4 to 9 and do not
 -- fork; SUB and SLTU give 0, and BEQ is taken. The other operations keep their reasons.
 -- Assumes nothing.
-use mathlib.Core.Path.{_≡_, refl, sym, _∙_}
+use mathlib.Core.Path.{_≡_, refl}
 use mathlib.Core.Bool.{true, false}
-use mathlib.Core.List.{List, [], _∷_}
+use mathlib.Core.List.{List}
 use mathlib.Core.Option.{Option, none, some}
 use Prim.Native.Nat.{ℕ, _+_}
-use native.Mathlib.Omega.{arith}
-use lib.Dec.{eqb, ltb}
-use lib.ListN.{length}
+use lib.Dec.{eqb}
 use lib.IntN.{ℤ}
 use borrow.Author.Tests.{eq-eqb}
-use Rattle.boxes.specs.Boxes.{Choice, Proper, Inside}
+use Rattle.boxes.specs.Boxes.{Proper}
 use Rattle.boxes.proofs.Lists.{by-test}
-use Rattle.boxes.proofs.Choices.{lows-inside}
-use Rattle.boxes.proofs.Pieces.{pieces-one}
 use Rattle.riscu.specs.Word.{word, widen}
 use Rattle.riscu.specs.Machine.{State, reg, put, next, jump, step}
 use Rattle.riscu.specs.Whole.{Whole}
@@ -22,26 +18,15 @@ use Rattle.riscu.specs.declared.Operation.{Operation}
 use Rattle.riscu.specs.declared.Operation.the-variants.{Add, Sub, Mul, Divu, Remu, Sltu}
 use Rattle.riscu.specs.declared.Instruction.{Instruction}
 use Rattle.riscu.specs.declared.Instruction.the-variants.{Register, Beq}
-use Rattle.listing.specs.Group.{Job, Group, after, View, viewOf, sortingOf, classBy, classOf}
-use Rattle.listing.specs.Ending.{first, openAt, twoOpen, operationPoints, operandPoints, addressPoints, points, writes, needs}
+use Rattle.listing.specs.Group.{Job, Group, after, View, sortingOf, classBy, classOf}
+use Rattle.listing.specs.Ending.{first, openAt, twoOpen, operationPoints, operandPoints, addressPoints, points}
 use Rattle.listing.specs.declared.Operand.the-variants.{InRegister}
 use Rattle.listing.specs.declared.Reason.the-variants.{BothOpen, DivisorOpen}
 use Rattle.listing.specs.declared.End.{End}
 use Rattle.listing.specs.declared.End.the-variants.{NotFollowed}
 use Rattle.corners.specs.Smooth.{WithItself}
+use Rattle.corners.proofs.Unforked.{Unforked, one-class}
 use Rattle.corners.proofs.Operations.{with-itself, class-itself, result-itself, comparison-itself}
-
--- an instruction that does not fork a group, and takes entries for its writes alone
-pub record Unforked (j : Job) (g : Group) (i : Instruction) : Type 0 where
-  pub one-piece : viewOf j g .piecesOf i ≡ g .box ∷ []
-  pub entries : needs g (viewOf j g) i ≡ writes (ltb (viewOf j g .reads) (length (g .box))) i
-
-pub one-class : (j : Job) (g : Group) (i : Instruction) (n : ℕ) → Proper (g .box)
-    → ((c : Choice) → Inside c (g .box) → classOf i (after j (g .steps) c) ≡ n) → Unforked j g i
-unfolding needs
-one-class j g i n p h =
-    let e : viewOf j g .piecesOf i ≡ g .box ∷ [] = pieces-one (λ c. classOf i (after j (g .steps) c)) (g .box) p (λ c m. h c m ∙ sym (h _ (lows-inside (g .box) p))) in
-    record { one-piece = e; entries = rw e (omega arith) }
 
 -- no point from 4 to 9 ends the instruction, whatever is open, and it does not fork
 pub record AlwaysFollowed (i : Instruction) : Type 0 where

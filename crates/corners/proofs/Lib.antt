@@ -4,6 +4,7 @@
 --     Smooth          steps that no point ends and that do not fork
 --     Uniform         after smooth steps every value is tame, with the tag that is computed
 --     Followed        what the ending order says of a group that goes on
+--     Unforked        one class on a group's box: no fork
 --     Itself          one register named twice: SUB, SLTU and BEQ go on
 --     ByZero          a fixed divisor 0: DIVU and REMU go on
 --     Corner          the corners decide the ending order and the pieces
@@ -17,6 +18,7 @@ pub mod Tame
 pub mod Smooth
 pub mod Uniform
 pub mod Followed
+pub mod Unforked
 pub mod Itself
 pub mod ByZero
 pub mod Corner

@@ -73,14 +73,14 @@ comparison-equal a b = by-test (eqb a b)
     (λ e. let q = eqb-true a b e in rw (le-ltb a b (omega arith), e))
     (λ e. by-test (ltb a b) (λ t. rw (t, e)) (λ t. rw (t, e)))
 
--- Three ways to sort: by a quotient, by the result itself, not at all.
+-- Three ways to sort: by the wrap, by the result itself, not at all.
 
 module _ (g : ℕ → ℕ → ℕ) (rises : (v x y : ℕ) → x ≤ y → g x v ≤ g y v) where
-  by-quotient : (m : ℕ → ℕ) → Sorts (λ x v. g x v / m v) (λ x v. g x v % m v)
-  by-quotient m =
+  by-wrap : Sorts (λ x v. g x v / size) (λ x v. word (g x v))
+  by-wrap =
       record {
-        class = inl (λ v x y w h. div-rises (m v) (rises v x y h));
-        result = inl (λ v x y w h. mod-rises (m v) (rises v x y h) (w .1));
+        class = inl (λ v x y w h. div-rises size (rises v x y h));
+        result = inl (λ v x y w h. mod-rises size (rises v x y h) (w .1));
       }
 
   by-nothing : Sorts (λ x v. 0) (λ x v. g x v)
@@ -121,9 +121,9 @@ remu-rises v x y s h = by-test (eqb v 0) (λ e. rw e h) (λ e. rw e (mod-rises v
 
 pub open-first : (op : Operation) → Sorts (sortOf op) (operate op)
 unfolding sortOf operate
-open-first Add = by-quotient (λ x v. x + v) (omega arith) (λ v. size)
+open-first Add = by-wrap (λ x v. x + v) (omega arith)
 open-first Sub = record { class = less-falls; result = inl (λ v x y w h. sub-rises v x y (w .0) (less-same x v y v (w .1)) h) }
-open-first Mul = by-quotient (λ x v. x * v) (λ v x y h. mul-le-mul-right v h) (λ v. size)
+open-first Mul = by-wrap (λ x v. x * v) (λ v x y h. mul-le-mul-right v h)
 open-first Divu = by-nothing (operate Divu) divu-rises
 open-first Remu =
     record { class = inl (λ v x y w h. remu-class v x y h); result = inl (λ v x y w h. remu-rises v x y (w .1) h) }
@@ -131,9 +131,9 @@ open-first Sltu = by-itself less less-falls
 
 pub open-second : (op : Operation) → EitherOpen op → Sorts (flip (sortOf op)) (flip (operate op))
 unfolding sortOf operate
-open-second Add e = by-quotient (λ x v. v + x) (omega arith) (λ v. size)
+open-second Add e = by-wrap (λ x v. v + x) (omega arith)
 open-second Sub e = record { class = less-rises; result = inr (λ v x y w h. sub-falls v x y (w .0) (less-same v y v x (sym (w .1))) h) }
-open-second Mul e = by-quotient (λ x v. v * x) (λ v x y h. mul-le-mul-left v h) (λ v. size)
+open-second Mul e = by-wrap (λ x v. v * x) (λ v x y h. mul-le-mul-left v h)
 open-second Divu e = absurd e
 open-second Remu e = absurd e
 open-second Sltu e = by-itself (flip less) less-rises

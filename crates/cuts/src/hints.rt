@@ -11,7 +11,7 @@ use riscu::words::quotient;
 use riscu::words::sub;
 ghost use Prim.Native.Nat.{_<_, _^_};
 
-// The last multiple of c that the greater of two values has passed.
+// The last multiple of c that the greater of two values has passed. No cut asks it of 0: REMU by 0, and MUL by 0 or by 1, have one class.
 fn top_multiple(c: u64, low: u64, high: u64) -> u64 {
     let top = if low < high { high } else { low };
     let p = product(quotient(top, c), c);

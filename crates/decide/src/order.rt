@@ -23,7 +23,7 @@ ghost use Rattle.riscu.specs.declared.Instruction.the-variants.{Register, Ld, J
 ghost use Rattle.listing.specs.declared.Operand.the-variants.{InRegister};
 ghost use Rattle.listing.specs.declared.Sorting.the-variants.{Compares};
 ghost use Rattle.listing.specs.Ending.{openAt, valueAt, badAccess, callOpen, badCall, badRead, sameRegister, operandOpen, operandValue};
-ghost use Rattle.listing.specs.Ending.{bothOpen, twoOpen, oddFactor, farApart, operationPoints, operandPoints, addressPoints, points};
+ghost use Rattle.listing.specs.Ending.{bothOpen, twoOpen, neitherZeroNorPower, farApart, operationPoints, operandPoints, addressPoints, points};
 ghost use Rattle.decide.specs.Corner.{cornerView, verdict};
 
 // Whether a register differs at the corners.
@@ -194,8 +194,8 @@ fn two_open(low: &Registers, high: &Registers, a: Operand, b: Operand) -> bool
 }
 
 // a is neither 0 nor a power of two, and b is open.
-fn odd_factor(low: &Registers, high: &Registers, a: Operand, b: Operand) -> bool
-    ensures { λ r. ⌜ r ≡ oddFactor (cornerView (now (low .entry)) (now (high .entry))) a b ⌝ }
+fn neither_zero_nor_power(low: &Registers, high: &Registers, a: Operand, b: Operand) -> bool
+    ensures { λ r. ⌜ r ≡ neitherZeroNorPower (cornerView (now (low .entry)) (now (high .entry))) a b ⌝ }
 {
     let x = operand_open(low, high, b);
     if x {
@@ -249,10 +249,10 @@ fn product_points(low: &Registers, high: &Registers, a: Operand, b: Operand) -> 
     let Verdict::Passes = v else {
         return v;
     };
-    if odd_factor(low, high, a, b) {
+    if neither_zero_nor_power(low, high, a, b) {
         return Verdict::Ends(End::NotFollowed(Reason::Multiplier));
     }
-    if odd_factor(low, high, b, a) {
+    if neither_zero_nor_power(low, high, b, a) {
         return Verdict::Ends(End::NotFollowed(Reason::Multiplier));
     }
     if quotients(Operation::Mul, low, high, a, b) {
@@ -267,7 +267,7 @@ fn quotient_points(low: &Registers, high: &Registers, a: Operand, b: Operand) ->
     if operand_open(low, high, b) {
         return Verdict::Ends(End::NotFollowed(Reason::DivisorOpen));
     }
-    if odd_factor(low, high, b, a) {
+    if neither_zero_nor_power(low, high, b, a) {
         return Verdict::Ends(End::NotFollowed(Reason::Divisor));
     }
     Verdict::Passes

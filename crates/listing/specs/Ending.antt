@@ -119,9 +119,9 @@ module _ (v : View) where
   abbrev pub twoOpen : Operand → Operand → Bool
   twoOpen a b = bothOpen a b && not (sameRegister a b)
 
-  -- a fixed multiplier or divisor a that is neither 0 nor a power of two, and b open
-  abbrev pub oddFactor : Operand → Operand → Bool
-  oddFactor a b = operandOpen b && not (eqb (operandValue a) 0 || isPower (operandValue a))
+  -- a fixed multiplier or divisor a is neither 0 nor a power of two, and b is open
+  abbrev pub neitherZeroNorPower : Operand → Operand → Bool
+  neitherZeroNorPower a b = operandOpen b && not (eqb (operandValue a) 0 || isPower (operandValue a))
 
   -- the quotients at the open value's low and high are more than 1 apart: the quotient rises with the value
   abbrev pub farApart : Operation → Operand → Operand → Bool
@@ -136,11 +136,11 @@ module _ (v : View) where
   operationPoints Sltu a b = (twoOpen a b ⇒ NotFollowed BothOpen) ∷ []
   operationPoints Mul a b =
       (bothOpen a b ⇒ NotFollowed BothOpen)
-      ∷ (oddFactor a b ⇒ NotFollowed Multiplier)
-      ∷ (oddFactor b a ⇒ NotFollowed Multiplier)
+      ∷ (neitherZeroNorPower a b ⇒ NotFollowed Multiplier)
+      ∷ (neitherZeroNorPower b a ⇒ NotFollowed Multiplier)
       ∷ (farApart Mul a b ⇒ NotFollowed Quotients)
       ∷ []
-  operationPoints Divu a b = (operandOpen b ⇒ NotFollowed DivisorOpen) ∷ (oddFactor b a ⇒ NotFollowed Divisor) ∷ []
+  operationPoints Divu a b = (operandOpen b ⇒ NotFollowed DivisorOpen) ∷ (neitherZeroNorPower b a ⇒ NotFollowed Divisor) ∷ []
   operationPoints Remu a b = (operandOpen b ⇒ NotFollowed DivisorOpen) ∷ (farApart Remu a b ⇒ NotFollowed Quotients) ∷ []
 
   -- points 7 and 8, by what an instruction sorts by

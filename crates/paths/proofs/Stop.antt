@@ -24,7 +24,7 @@ use Rattle.riscu.specs.declared.Decoded.{Decoded}
 use Rattle.riscu.specs.declared.Decoded.the-variants.{Row, NoRow}
 use Rattle.listing.specs.Group.{Job, Group, after, sortOf, sortingOf, operand, View, viewOf}
 use Rattle.listing.specs.Ending.{Point, _⇒_, first, lastAddress, badAddress, openAt, valueAt, badAccess, operandOpen, bothOpen, twoOpen}
-use Rattle.listing.specs.Ending.{oddFactor, farApart, operationPoints, operandPoints, addressPoints, points, needs, endAt, endBy, endOf}
+use Rattle.listing.specs.Ending.{neitherZeroNorPower, farApart, operationPoints, operandPoints, addressPoints, points, needs, endAt, endBy, endOf}
 use Rattle.listing.specs.declared.Operand.{Operand}
 use Rattle.listing.specs.declared.Operand.the-variants.{InRegister, Constant}
 use Rattle.listing.specs.declared.Sorting.{Sorting}
@@ -79,8 +79,8 @@ module _ (s : State) where
   one-not-two : (a b : Operand) → twoOpen (viewOfOne s) a b ≡ false
   one-not-two a b = rw (one-not-both a b)
 
-  one-factor : (a b : Operand) → oddFactor (viewOfOne s) a b ≡ false
-  one-factor a b = rw (one-closed b)
+  one-multiplier : (a b : Operand) → neitherZeroNorPower (viewOfOne s) a b ≡ false
+  one-multiplier a b = rw (one-closed b)
 
   one-apart : (op : Operation) (a b : Operand) → farApart (viewOfOne s) op a b ≡ false
   one-apart op a b = let q = sortOf op (operand a (s .registers)) (operand b (s .registers)) in le-ltb (q + 1) q (omega arith)
@@ -102,11 +102,11 @@ module _ (j : Job) (g : Group) (c : Choice) (m : Inside c (g .box)) where
   operation-stops Sub a b t = engine (omega arith) (one-not-two state a b) (λ _. full t)
   operation-stops Mul a b t =
       engine (omega arith) (one-not-both state a b) (λ _.
-      engine (omega arith) (one-factor state a b) (λ _.
-      engine (omega arith) (one-factor state b a) (λ _.
+      engine (omega arith) (one-multiplier state a b) (λ _.
+      engine (omega arith) (one-multiplier state b a) (λ _.
       engine (omega arith) (one-apart state Mul a b) (λ _. full t))))
   operation-stops Divu a b t =
-      engine (omega arith) (one-closed state b) (λ _. engine (omega arith) (one-factor state b a) (λ _. full t))
+      engine (omega arith) (one-closed state b) (λ _. engine (omega arith) (one-multiplier state b a) (λ _. full t))
   operation-stops Remu a b t =
       engine (omega arith) (one-closed state b) (λ _. engine (omega arith) (one-apart state Remu a b) (λ _. full t))
   operation-stops Sltu a b t = engine (omega arith) (one-not-two state a b) (λ _. full t)
@@ -170,8 +170,8 @@ module _ (s : State) where
   unfolding operationPoints first
   operation-goes-on Add a b = rw (one-not-both s a b)
   operation-goes-on Sub a b = rw (one-not-two s a b)
-  operation-goes-on Mul a b = rw (one-not-both s a b, one-factor s a b, one-factor s b a, one-apart s Mul a b)
-  operation-goes-on Divu a b = rw (one-closed s b, one-factor s b a)
+  operation-goes-on Mul a b = rw (one-not-both s a b, one-multiplier s a b, one-multiplier s b a, one-apart s Mul a b)
+  operation-goes-on Divu a b = rw (one-closed s b, one-multiplier s b a)
   operation-goes-on Remu a b = rw (one-closed s b, one-apart s Remu a b)
   operation-goes-on Sltu a b = rw (one-not-two s a b)
 
@@ -201,6 +201,11 @@ fetched-goes-on code s {i} e h = go (badPc code (s .pc)) (decodeOf (getD code (s
     go : (t : Bool) (d : Decoded) → cond t NoRow d ≡ Row i → cond t (some BadPc) (stopDecoded (cond t NoRow d) s) ≡ none
     go false d e = rw e h
     go true d e = let z : _≡_ {A = ℕ} 0 1 = cc in absurd (omega arith)
+
+-- the machine stops at no operation, division by 0 included (document 02, No. 3)
+pub operation-completes : (code : List ℕ) (s : State) (op : Operation) (rd q r : ℕ) → fetch code (s .pc) ≡ Row (Register op rd q r)
+    → stopOf code s ≡ none
+operation-completes code s op rd q r e = fetched-goes-on code s e (completes-goes-on s (Register op rd q r) tt)
 
 pub smooth-goes-on : {j : Job} {b : Box} (m : ℕ) → Smooth j b m → (c : Choice) → Inside c b → stopOf (j .code) (after j m c) ≡ none
 smooth-goes-on {j} m s c h =

@@ -49,7 +49,7 @@ pub fn sub(a: u64, b: u64) -> u64
     std::num::wrapping_add_u64(a, complement)
 }
 
-// How often b goes into a; 0 where b is 0.
+// The quotient that REMU sorts by, and that guesses use: 0 where b is 0.
 pub fn quotient(a: u64, b: u64) -> u64
     ensures { λ r. ⌜ r ≡ cond (eqb b 0) 0 (a / b) ⌝ }
 {

@@ -11,19 +11,19 @@ returns c = ends-before _ _ (c .before .before .sum-points .ensures) (c .enum-to
 
 returns-2 : tie.Need-returns-2
 unfolding operationPoints
-returns-2 c = passes-before _ _ (c .before .before .before .before .sum-points .ensures) (c .before .before .enum-told .given .1) (stops _ (sym (c .before .odd-factor .ensures) ∙ c .if1 .taken))
+returns-2 c = passes-before _ _ (c .before .before .before .before .sum-points .ensures) (c .before .before .enum-told .given .1) (stops _ (sym (c .before .neither-zero-nor-power .ensures) ∙ c .if1 .taken))
 
 returns-3 : tie.Need-returns-3
 unfolding operationPoints
-returns-3 c = passes-before _ _ (c .before .before .before .before .before .before .sum-points .ensures) (c .before .before .before .before .enum-told .given .1) (goes _ _ (sym (c .before .before .before .odd-factor .ensures) ∙ c .before .before .if1 .left) (stops _ (sym (c .before .odd-factor2 .ensures) ∙ c .if2 .taken)))
+returns-3 c = passes-before _ _ (c .before .before .before .before .before .before .sum-points .ensures) (c .before .before .before .before .enum-told .given .1) (goes _ _ (sym (c .before .before .before .neither-zero-nor-power .ensures) ∙ c .before .before .if1 .left) (stops _ (sym (c .before .neither-zero-nor-power2 .ensures) ∙ c .if2 .taken)))
 
 returns-4 : tie.Need-returns-4
 unfolding operationPoints
-returns-4 c = passes-before _ _ (c .before .before .before .before .before .before .before .before .sum-points .ensures) (c .before .before .before .before .before .before .enum-told .given .1) (goes _ _ (sym (c .before .before .before .before .before .odd-factor .ensures) ∙ c .before .before .before .before .if1 .left) (goes _ _ (sym (c .before .before .before .odd-factor2 .ensures) ∙ c .before .before .if2 .left) (stops _ (sym (c .before .quotients .ensures) ∙ c .if3 .taken))))
+returns-4 c = passes-before _ _ (c .before .before .before .before .before .before .before .before .sum-points .ensures) (c .before .before .before .before .before .before .enum-told .given .1) (goes _ _ (sym (c .before .before .before .before .before .neither-zero-nor-power .ensures) ∙ c .before .before .before .before .if1 .left) (goes _ _ (sym (c .before .before .before .neither-zero-nor-power2 .ensures) ∙ c .before .before .if2 .left) (stops _ (sym (c .before .quotients .ensures) ∙ c .if3 .taken))))
 
 returns-5 : tie.Need-returns-5
 unfolding operationPoints
-returns-5 c = passes-before _ _ (c .before .before .before .before .before .before .before .before .sum-points .ensures) (c .before .before .before .before .before .before .enum-told .given .1) (goes _ _ (sym (c .before .before .before .before .before .odd-factor .ensures) ∙ c .before .before .before .before .if1 .left) (goes _ _ (sym (c .before .before .before .odd-factor2 .ensures) ∙ c .before .before .if2 .left) (goes _ _ (sym (c .before .quotients .ensures) ∙ c .if3 .left) passes)))
+returns-5 c = passes-before _ _ (c .before .before .before .before .before .before .before .before .sum-points .ensures) (c .before .before .before .before .before .before .enum-told .given .1) (goes _ _ (sym (c .before .before .before .before .before .neither-zero-nor-power .ensures) ∙ c .before .before .before .before .if1 .left) (goes _ _ (sym (c .before .before .before .neither-zero-nor-power2 .ensures) ∙ c .before .before .if2 .left) (goes _ _ (sym (c .before .quotients .ensures) ∙ c .if3 .left) passes)))
 
 pub product-points-spec : {M : Type 1} → statement M
 product-points-spec =
