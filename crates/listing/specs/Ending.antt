@@ -1,6 +1,6 @@
 -- How a path ends: document 01's ten points, in its order. The first that applies decides, with the first reason named there.
 -- Point 8 is as document 02, No. 1, has it: with one open register twice SUB, SLTU and BEQ go on; ADD and MUL do not.
--- Points 7 and 8 are as No. 3 has them: a divisor 0 ends no path.
+-- Points 7 and 8 are as No. 3 has them: a divisor that is fixed at 0 ends no path.
 use Prim.Native.Nat.{ℕ, _+_, _-_, _%_}
 use mathlib.Core.Bool.{Bool, true, false, cond, not, _&&_, _||_}
 use mathlib.Core.List.{List, [], _∷_, _++_}
