@@ -209,6 +209,20 @@ fn busy_loop(turns: u64, low: u64, high: u64) -> Call {
     call
 }
 
+/// Multiplies and divides the input by `power` in a loop of `turns` turns and seven steps each. One path
+/// for a power that leaves 20..30 in one class.
+fn scaling_loop(turns: u64, power: u64) -> Call {
+    let start = [ld(6, 256, 0), ld(7, 264, 0)];
+    let turn = [mul(28, 5, 7), divu(29, 28, 7), mul(30, 29, 7), divu(5, 30, 7)];
+    let back = [addi(6, 6, -1), beq(6, 0, 8), jal(0, -24)];
+    let mut call = call(reads(&[&start[..], &turn, &back].concat()), 20, 30, 1);
+    call.memory[32] = turns;
+    call.memory[33] = power;
+    // five writes in each turn
+    call.entries = 5 * turns as usize + 16;
+    call
+}
+
 fn job_a() -> Call {
     call_of(assembler::job_a())
 }
@@ -384,6 +398,23 @@ fn print_against_plain() {
     println!("| engine, without the table's clearing | {:.1} | {:.1} |", own / steps, own / plain);
 }
 
+/// The first power is the usual kind in a rule; the others stand in the middle and near the end of the 64.
+fn print_scaling() {
+    println!("\n## Products and quotients\n");
+    println!("| power | steps | plain interpreter, ns a step | engine, ns a step | ratio |");
+    println!("|---|---|---|---|---|");
+    for exponent in [3, 32, 60] {
+        let call = scaling_loop(8_000, 1 << exponent);
+        let (cost, steps) = (call.cost(3), run_plain(&call, &[20]));
+        assert_eq!((cost.paths, cost.steps), (1, steps), "the two run the same steps");
+        let plain = median_ns(3, || {
+            black_box(run_plain(black_box(&call), black_box(&[20])));
+        });
+        let (own, others, ratio) = (cost.ns / steps as f64, plain / steps as f64, cost.ns / plain);
+        println!("| 2^{exponent} | {steps} | {others:.1} | {own:.1} | {ratio:.1} |");
+    }
+}
+
 fn print_typical_jobs() {
     println!("\n## Typical jobs\n");
     println!("| job | paths | steps of all paths | µs a call | paths a second |");
@@ -500,6 +531,7 @@ fn print_placed(report: &[u8], rows: &[u64], repeats: u32) {
 
 fn main() {
     print_against_plain();
+    print_scaling();
     print_typical_jobs();
     print_growth();
     print_single_calls();

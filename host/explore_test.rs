@@ -11,6 +11,7 @@ mod listing_check;
 mod oracle;
 mod programs;
 
+use formats::assembler::{divu, ld, mul, reads};
 use formats::blocks::flat;
 use formats::limits::*;
 use formats::numbers::{kind_occurs, CALL_REFUSALS, KINDS, REASONS};
@@ -540,10 +541,40 @@ fn run_calls(
     Ok(())
 }
 
-fn show(seed: u64, failure: &Failure) {
-    println!("job with seed {seed} differs: {}", failure.fault);
+/// MUL from both sides and DIVU of an open input by each power of two and by its two neighbours.
+fn run_scaling() -> Result<u64, Failure> {
+    let random = &mut Random(FIRST_SEED);
+    let mut jobs = 0;
+    for exponent in 0..u64::BITS {
+        for factor in [(1 << exponent) - 1, 1 << exponent, (1 << exponent) + 1] {
+            for word in [mul(10, 5, 6), mul(10, 6, 5), divu(10, 5, 6)] {
+                run_scaled(random, factor, word)?;
+                jobs += 1;
+            }
+        }
+    }
+    Ok(jobs)
+}
+
+fn run_scaled(random: &mut Random, factor: u64, word: u32) -> Result<(), Failure> {
+    let mut memory = vec![0; MEMORY_WORDS];
+    memory[32] = factor;
+    let mut lent = lent(random, &memory, USUAL_TABLE_WORDS);
+    let code = reads(&[ld(6, 256, 0), word]);
+    // a product by 2^63 divides these three into two classes
+    let job = Job { code, memory, limit: 100, intervals: vec![(1, 3)], entries: lent.entries() };
+    let (listing, met) = oracle::listing_and_met(&job);
+    let mut task = Task::new(job, listing, met);
+    while task.next.is_some() {
+        let page = next_page(random, &mut lent, &mut task);
+        page.map_err(|fault| failure(&lent, &task.job, fault))?;
+    }
+    Ok(())
+}
+
+fn show(job: &str, failure: &Failure) {
+    println!("job {job} differs: {}", failure.fault);
     print!("{}", failure.dump);
-    println!("repeat it with: explore_test {seed} 1");
 }
 
 fn arguments() -> (u64, u64) {
@@ -560,6 +591,13 @@ fn arguments() -> (u64, u64) {
 }
 
 fn main() {
+    match run_scaling() {
+        Ok(jobs) => println!("{jobs} jobs by powers of two and their neighbours, 0 differ"),
+        Err(failure) => {
+            show("by a power of two or its neighbour", &failure);
+            std::process::exit(1)
+        }
+    }
     let (seed, count) = arguments();
     let mut tally = Tally::default();
     let mut differ = 0;
@@ -567,7 +605,8 @@ fn main() {
         if let Err(failure) = run_job(job, &mut tally) {
             differ += 1;
             if differ <= SHOWN_FAILURES {
-                show(job, &failure);
+                show(&format!("with seed {job}"), &failure);
+                println!("repeat it with: explore_test {job} 1");
             }
         }
     }

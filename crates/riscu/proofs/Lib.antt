@@ -7,7 +7,8 @@
 --     Rows        the search of the code's table
 --     Joins       states by their parts, instructions by their cases
 --     Runs        a run, one instruction at a time
---     Powers      the powers of two, and the search that finds one
+--     Search      the search of a list for a number
+--     Powers      the table of the powers of two, and which of them a word is
 --     Widths      sign extension, once over the width
 pub mod Whole
 pub mod Division
@@ -17,5 +18,6 @@ pub mod Signs
 pub mod Rows
 pub mod Joins
 pub mod Runs
+pub mod Search
 pub mod Powers
 pub mod Widths

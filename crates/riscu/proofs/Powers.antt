@@ -1,43 +1,65 @@
--- The powers of two below 2^64: the search tries each, and finds exactly the one that a word is. Assumes nothing.
+-- The powers of two below 2^64: the table's rule, rows of the table, and that the definition finds exactly the one that a word is. Assumes nothing.
 use mathlib.Core.Path.{_≡_, refl, sym, ap, _∙_}
 use mathlib.Core.Logic.{_≢_}
 use mathlib.Core.Bool.{Bool, true, false, cond}
-use Prim.Native.Nat.{ℕ, zero, suc, _-_, _*_, _%_, _^_, _<_, _≤_}
-use native.Mathlib.Nat.{one-mul}
+use mathlib.Core.List.{List}
+use Prim.Native.Nat.{ℕ, zero, suc, _+_, _-_, _^_, _<_, _≤_}
+use native.Mathlib.Nat.{add-zero, zero-add, add-suc, suc-add}
 use native.Mathlib.Omega.{arith}
 use borrow.Author.Tests.{eq-eqb, ne-eqb, eqb-true, ltb-true, ltb-false}
-use lib.Dec.{lit<, ltb, eqb}
-use lib.Pow.{shl-exact, pow-lt}
+use lib.Dec.{ltb, eqb}
+use lib.ListN.{length, take, drop, getD, length-drop}
+use lib.Pow.{pow-lt}
+use lib.Seq.{getD-take, getD-drop, length-take-le}
+use Rattle.riscu.specs.Powers.{powersFrom, placeOf}
+use Rattle.riscu.proofs.Search.{placed, absent}
 use Rattle.riscu.specs.Word.{powerBelow, powerOf}
 use Rattle.riscu.specs.declared.words.Exponent.{Exponent}
 use Rattle.riscu.specs.declared.words.Exponent.the-variants.{Power, NotPower}
 
--- a power as a shift makes it
-abbrev pub shifted : ℕ → ℕ
-shifted k = (1 * 2 ^ k) % 2 ^ 64
+entry-from : (k count i : ℕ) → i < count → getD (powersFrom k count) i 0 ≡ 2 ^ (k + i)
+unfolding powersFrom
+entry-from k zero i h = let b : ⊥ = omega arith in absurd b
+entry-from k (suc count) zero h = ap (λ (j : ℕ). 2 ^ j) (sym (add-zero k))
+entry-from k (suc count) (suc i) h =
+    entry-from (suc k) count i (omega arith) ∙ ap (λ (j : ℕ). 2 ^ j) (suc-add k i ∙ sym (add-suc k i))
 
-shifted-is : (k : ℕ) → k < 64 → shifted k ≡ 2 ^ k
-shifted-is k h = shl-exact {a = 1} 1 k 64 (lit< tt) (omega arith) ∙ one-mul (2 ^ k)
+module _ (table : List ℕ) (whole : table ≡ powersFrom 0 64) where
+  -- the fact about the whole table, at each of its entries
+  pub entry : (k : ℕ) → k < 64 → getD table k 0 ≡ 2 ^ k
+  entry k h = rw whole (entry-from 0 64 k h ∙ ap (λ (j : ℕ). 2 ^ j) (zero-add k))
 
-less : (k : ℕ) → suc k - 1 ≡ k
-less k = omega arith
+  size : length table ≡ 64
+  unfolding powersFrom
+  size = rw whole refl
 
--- one power tried: the loop's turn
-pub hit : (n k : ℕ) → 0 < k → k ≤ 64 → n ≡ shifted (k - 1) → powerBelow k n ≡ Power (k - 1)
-unfolding powerBelow
-hit n zero p h e = let b : ⊥ = omega arith in absurd b
-hit n (suc k) p h e = rw (less k, eq-eqb n (2 ^ k) (e ∙ ap shifted (less k) ∙ shifted-is k (omega arith)))
+  -- a row of eight: n stands in it, or is none of its powers
+  module _ (n first : ℕ) (h : first + 8 ≤ 64) where
+    abbrev row : List ℕ
+    row = take (first + 8 - first) (drop first table)
 
-pub miss : (n k : ℕ) → 0 < k → k ≤ 64 → n ≢ shifted (k - 1) → powerBelow k n ≡ powerBelow (k - 1) n
-unfolding powerBelow
-miss n zero p h e = let b : ⊥ = omega arith in absurd b
-miss n (suc k) p h e =
-    rw (less k, ne-eqb n (2 ^ k) (λ d. e (d ∙ sym (ap shifted (less k) ∙ shifted-is k (omega arith)))))
+    row-size : length row ≡ 8
+    row-size = length-take-le (first + 8 - first) (drop first table) (rw (length-drop, size) (omega arith)) ∙ omega arith
 
-pub none-left : (n k : ℕ) → k ≤ 0 → powerBelow k n ≡ NotPower
-unfolding powerBelow
-none-left n zero h = refl
-none-left n (suc k) h = let b : ⊥ = omega arith in absurd b
+    row-entry : (i : ℕ) → i < 8 → getD row i 0 ≡ 2 ^ (first + i)
+    row-entry i l =
+        getD-take (first + 8 - first) (drop first table) i 0 (omega arith)
+        ∙ getD-drop first table i 0
+        ∙ entry (first + i) (omega arith)
+
+    pub in-row : (place : ℕ) → place ≡ placeOf n row → place < 8 → n ≡ 2 ^ (first + place)
+    in-row place e l =
+        sym (placed n row (rw (row-size, sym e) l)) ∙ row-entry (placeOf n row) (rw (sym e) l) ∙ ap (λ (i : ℕ). 2 ^ (first + i)) (sym e)
+
+    pub off-row : (place : ℕ) → place ≡ placeOf n row → 8 ≤ place → ((k : ℕ) → k < first → n ≢ 2 ^ k) → (k : ℕ) → k < first + 8 → n ≢ 2 ^ k
+    off-row place e l before k g d = go (ltb k first) refl
+      where
+        go : (t : Bool) → ltb k first ≡ t → ⊥
+        go true t = before k (ltb-true k first t) d
+        go false t =
+            let q : first + (k - first) ≡ k = omega (arith, ltb-false k first t) in
+            let i : k - first < 8 = omega (arith, ltb-false k first t) in
+            absent n row (rw (row-size, sym e) l) (k - first) (rw row-size i) (row-entry (k - first) i ∙ ap (λ (j : ℕ). 2 ^ j) q ∙ sym d)
 
 -- what is found among the lowest `count` powers is one of them, and n
 found-below : (count n k : ℕ) → powerBelow count n ≡ Power k → (n ≡ 2 ^ k) × (k < count)

@@ -1,15 +1,17 @@
--- What a reader must believe of RISC-U; the last four say how the code and its contracts hold it.
+-- What a reader must believe of RISC-U; the last five say how the code and its contracts hold it.
 --     Word        machine words, two's complement of any width
 --     Decode      the instruction table, and the fields of a word
 --     Machine     the plain machine
 --     Limits      how much code and memory it has
---     Table       the table as the code holds it
+--     Table       the instruction table as the code holds it
+--     Powers      the powers of two as the code holds them
 --     Parts       a state as the code holds it
 --     Whole       what every state keeps
 --     Lent        a list that is lent to a function, in its contract
 pub mod Word
 pub mod Decode
 pub mod Table
+pub mod Powers
 pub mod Machine
 pub mod Limits
 pub mod Parts

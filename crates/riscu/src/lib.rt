@@ -3,6 +3,7 @@
 // A contract is an equation with a definition of specs/, where the papers leave nothing free.
 pub mod decoder;
 pub mod plain;
+mod power_table;
 pub mod words;
 
 // The six operations on two registers.

@@ -1,8 +1,11 @@
 // Machine words: products, differences and signed numbers in 64 bits.
+use crate::power_table::powers;
 ghost use mathlib.Core.Path.{_≡_};
 ghost use mathlib.Core.Bool.{cond};
 ghost use Prim.Native.Nat.{_+_, _-_, _*_, _/_, _%_, _^_, _<_, _≤_};
 ghost use lib.Dec.{ltb, eqb};
+ghost use denote.Ref.{now};
+ghost use Rattle.riscu.specs.Powers.{placeOf};
 ghost use Rattle.riscu.specs.Word.{size, word, signed, widen, powerOf};
 ghost use Rattle.riscu.specs.Machine.{operate};
 ghost use Rattle.riscu.specs.declared.Operation.the-variants.{Divu, Remu};
@@ -100,16 +103,33 @@ pub fn widen(z: i64) -> u64
     }
 }
 
-// The powers of two, from the greatest down.
+// The place of n in a list, or the list's length.
+fn place_of(n: u64, list: &[u64]) -> usize
+    ensures { λ r. ⌜ r ≡ placeOf n (now (list .entry)) ⌝ }
+{
+    let mut k: usize = 0;
+    while k < list.len() {
+        if list[k] == n {
+            return k;
+        }
+        k += 1;
+    }
+    k
+}
+
+// The table is searched by eights: the compiler then knows each entry that is looked at, and builds no table.
 pub fn power_of(n: u64) -> Exponent
     ensures { λ r. ⌜ r ≡ powerOf n ⌝ }
 {
-    let mut k: usize = 64;
-    while k > 0 {
-        k -= 1;
-        if n == 1u64 << k {
-            return Exponent::Power(k);
+    let table = powers();
+    let mut row: usize = 0;
+    while row < 8 {
+        let first = 8 * row;
+        let place = place_of(n, &table[first..first + 8]);
+        if place < 8 {
+            return Exponent::Power(first + place);
         }
+        row += 1;
     }
     Exponent::NotPower
 }

@@ -1,37 +1,60 @@
-use Rattle.riscu.proofs.Powers.{hit, miss, none-left}
-use Rattle.riscu.specs.Word.{powerOf, powerBelow}
+use Rattle.riscu.proofs.Powers.{in-row, off-row, power-law}
 use borrow.Author.Needs.{needs}
 use native.Mathlib.Omega.{arith}
-use Prim.Native.Nat.{_≤_}
-use mathlib.Core.Path.{_≡_, refl, sym, _∙_}
+use Prim.Native.Nat.{ℕ, _-_, _*_, _^_, _<_, _≤_}
+use mathlib.Core.Logic.{_≢_}
+use mathlib.Core.Path.{sym}
 use Rattle.riscu.proofs.words.power_of.Statement.{statement}
 use Rattle.riscu.proofs.words.power_of.Tie as tie
 
+-- no power of the rows before is n
 abbrev Inv-loop : tie.InvT-loop
-Inv-loop n k₀ k = (k ≤ 64) × (powerOf n ≡ powerBelow k n)
+Inv-loop n table row₀ row = (row ≤ 8) × ((k : ℕ) → k < 8 * row → n ≢ 2 ^ k)
 
 abbrev μ-loop : tie.MeasureT-loop
-μ-loop n k₀ k = k
+μ-loop n table row₀ row = 8 - row
 
 loop-holds : tie.Need-loop-holds Inv-loop μ-loop
-loop-holds c = (search needs, refl)
+loop-holds c = (search needs, λ k h. absurd (omega arith))
 
 returns : tie.Need-returns Inv-loop μ-loop
 returns c =
-    let l = c .before .before in
-    sym (l .loop .inv .1 ∙ hit (l .before .args .n) (l .loop .k) (omega arith) (l .loop .inv .0) (c .if1 .taken))
+    let l = c .before .before .before .before .before in
+    let t = l .before .powers in
+    let n = l .before .before .args .n in
+    let p = c .before .place-of in
+    sym (power-law n .finds _ (in-row (t .result) (t .ensures) n (8 * l .loop .row) (omega arith) (p .result) (p .ensures) (c .if1 .taken)) (omega arith))
 
 loop-again : tie.Need-loop-again Inv-loop μ-loop
 loop-again c =
-    let l = c .before .before in
-    (search needs, l .loop .inv .1 ∙ miss (l .before .args .n) (l .loop .k) (omega arith) (l .loop .inv .0) (c .if1 .left))
+    let l = c .before .before .before .before .before in
+    let t = l .before .powers in
+    let n = l .before .before .args .n in
+    let p = c .before .place-of in
+    let off = off-row (t .result) (t .ensures) n (8 * l .loop .row) (omega arith) (p .result) (p .ensures) (omega arith) (l .loop .inv .1) in
+    (search needs, λ k h. off k (omega arith))
 
 returns-2 : tie.Need-returns-2 Inv-loop μ-loop
-returns-2 c =
-    let l = c .before in
-    sym (l .loop .inv .1 ∙ none-left (l .before .args .n) (l .loop .k) (omega arith))
+returns-2 c = sym (power-law _ .otherwise (λ k h. c .before .loop .inv .1 k (omega arith)))
 
 pub power-of-spec : {M : Type 1} → statement M
 power-of-spec =
     tie.close
-    (tie.spec Inv-loop μ-loop loop-holds (λ c. search needs) (λ c. search needs) returns (λ c. search needs) loop-again returns-2)
+    (tie.spec
+    Inv-loop
+    μ-loop
+    (λ c κs. search needs)
+    loop-holds
+    (λ c. search needs)
+    (λ c. search needs)
+    (λ c. search needs)
+    (λ c. search needs)
+    (λ c. search needs)
+    (λ c. search needs)
+    (λ c κs. search needs)
+    (λ c. search needs)
+    returns
+    (λ c. search needs)
+    (λ c. search needs)
+    loop-again
+    returns-2)
