@@ -1,7 +1,8 @@
 //! Random jobs through the library's border, compared with the oracle.
 //!
 //! A job is a list of calls on one memory and one table. Small boxes are compared with the brute
-//! force byte for byte; large ones with single runs of the plain machine.
+//! force byte for byte; large ones with single runs of the plain machine. Before them come products
+//! and quotients by each power of two and by its neighbours.
 //! `explore_test [SEED COUNT]`: job k of a run has the seed SEED + k.
 
 #[allow(dead_code)] // rows are placed by place_test

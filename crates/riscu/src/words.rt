@@ -117,19 +117,21 @@ fn place_of(n: u64, list: &[u64]) -> usize
     k
 }
 
-// The table is searched by eights: the compiler then knows each entry that is looked at, and builds no table.
+// Entries in a row of the search: loops as short as this are unrolled whole, and no table is built at run time.
+const ROW: usize = 8;
+
+// The table is searched row by row.
 pub fn power_of(n: u64) -> Exponent
     ensures { λ r. ⌜ r ≡ powerOf n ⌝ }
 {
     let table = powers();
-    let mut row: usize = 0;
-    while row < 8 {
-        let first = 8 * row;
-        let place = place_of(n, &table[first..first + 8]);
-        if place < 8 {
+    let mut first: usize = 0;
+    while first < 64 {
+        let place = place_of(n, &table[first..first + ROW]);
+        if place < ROW {
             return Exponent::Power(first + place);
         }
-        row += 1;
+        first += ROW;
     }
     Exponent::NotPower
 }
