@@ -194,6 +194,13 @@ fn run_plain(call: &Call, inputs: &[u64]) -> u64 {
     plain.run(&call.job.code, call.job.limit)
 }
 
+/// The plain interpreter's time on the input 20.
+fn plain_ns(call: &Call) -> f64 {
+    median_ns(3, || {
+        black_box(run_plain(black_box(call), black_box(&[20])));
+    })
+}
+
 // ---------------------------------------------------------------------------------------------
 // Programs.
 
@@ -376,9 +383,7 @@ fn print_against_plain() {
     let plain_steps = run_plain(&call, &[20]);
     assert_eq!((cost.paths, cost.steps), (1, plain_steps), "the two run the same steps");
     assert_eq!((open.paths, open.steps), (1, plain_steps), "an open input runs them too");
-    let plain = median_ns(3, || {
-        black_box(run_plain(black_box(&call), black_box(&[20])));
-    });
+    let plain = plain_ns(&call);
     // what the long table costs by itself
     let mut idle = busy_loop(7_500, 20, 20);
     idle.job.code = vec![0];
@@ -407,9 +412,7 @@ fn print_scaling() {
         let call = scaling_loop(8_000, 1 << exponent);
         let (cost, steps) = (call.cost(3), run_plain(&call, &[20]));
         assert_eq!((cost.paths, cost.steps), (1, steps), "the two run the same steps");
-        let plain = median_ns(3, || {
-            black_box(run_plain(black_box(&call), black_box(&[20])));
-        });
+        let plain = plain_ns(&call);
         let (own, others, ratio) = (cost.ns / steps as f64, plain / steps as f64, cost.ns / plain);
         println!("| 2^{exponent} | {steps} | {others:.1} | {own:.1} | {ratio:.1} |");
     }

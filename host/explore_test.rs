@@ -559,9 +559,11 @@ fn run_scaling() -> Result<u64, Failure> {
 
 fn run_scaled(random: &mut Random, factor: u64, word: u32) -> Result<(), Failure> {
     let mut memory = vec![0; MEMORY_WORDS];
-    memory[32] = factor;
+    // among the constants, which a failure shows
+    let place = programs::CONSTANT_WORDS.start;
+    memory[place] = factor;
     let mut lent = lent(random, &memory, USUAL_TABLE_WORDS);
-    let code = reads(&[ld(6, 256, 0), word]);
+    let code = reads(&[ld(6, 8 * place as i64, 0), word]);
     // a product by 2^63 divides these three into two classes
     let job = Job { code, memory, limit: 100, intervals: vec![(1, 3)], entries: lent.entries() };
     let (listing, met) = oracle::listing_and_met(&job);
@@ -573,8 +575,8 @@ fn run_scaled(random: &mut Random, factor: u64, word: u32) -> Result<(), Failure
     Ok(())
 }
 
-fn show(job: &str, failure: &Failure) {
-    println!("job {job} differs: {}", failure.fault);
+fn show(which: &str, failure: &Failure) {
+    println!("job {which} differs: {}", failure.fault);
     print!("{}", failure.dump);
 }
 
@@ -592,14 +594,16 @@ fn arguments() -> (u64, u64) {
 }
 
 fn main() {
+    let (seed, count) = arguments();
     match run_scaling() {
-        Ok(jobs) => println!("{jobs} jobs by powers of two and their neighbours, 0 differ"),
+        Ok(jobs) => {
+            println!("{jobs} products and quotients by powers of two and neighbours, 0 differ")
+        }
         Err(failure) => {
             show("by a power of two or its neighbour", &failure);
             std::process::exit(1)
         }
     }
-    let (seed, count) = arguments();
     let mut tally = Tally::default();
     let mut differ = 0;
     for job in seed..seed + count {

@@ -4,7 +4,7 @@
 --     Counters    pc stays a word, and the inputs read are at most the steps
 --     Columns     a product in columns, in any base
 --     Signs       signed numbers of any width, and as 64 bits
---     Rows        the search of the code's table
+--     Rows        the search of the code's instruction table
 --     Joins       states by their parts, instructions by their cases
 --     Runs        a run, one instruction at a time
 --     Search      the search of a list for a number

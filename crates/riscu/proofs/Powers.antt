@@ -1,4 +1,4 @@
--- The powers of two below 2^64: the table's rule, rows of the table, and that the definition finds exactly the one that a word is. Assumes nothing.
+-- The powers of two below 2^64: the table's rule, chunks of the table, and that the definition finds exactly the one that a word is. Assumes nothing.
 use mathlib.Core.Path.{_≡_, refl, sym, ap, _∙_}
 use mathlib.Core.Logic.{_≢_}
 use mathlib.Core.Bool.{Bool, true, false, cond}
@@ -19,47 +19,47 @@ use Rattle.riscu.specs.declared.words.Exponent.the-variants.{Power, NotP
 
 entry-from : (k count i : ℕ) → i < count → getD (powersFrom k count) i 0 ≡ 2 ^ (k + i)
 unfolding powersFrom
-entry-from k zero i h = let b : ⊥ = omega arith in absurd b
-entry-from k (suc count) zero h = ap (λ (j : ℕ). 2 ^ j) (sym (add-zero k))
-entry-from k (suc count) (suc i) h =
-    entry-from (suc k) count i (omega arith) ∙ ap (λ (j : ℕ). 2 ^ j) (suc-add k i ∙ sym (add-suc k i))
+entry-from k zero i h = absurd (omega arith)
+entry-from k (suc count) zero h = rw add-zero
+entry-from k (suc count) (suc i) h = rw (add-suc, ← suc-add) (entry-from (suc k) count i (omega arith))
 
 module _ (table : List ℕ) (whole : table ≡ powersFrom 0 64) where
   -- the fact about the whole table, at each of its entries
   pub entry : (k : ℕ) → k < 64 → getD table k 0 ≡ 2 ^ k
-  entry k h = rw whole (entry-from 0 64 k h ∙ ap (λ (j : ℕ). 2 ^ j) (zero-add k))
+  entry k h = rw whole (rw zero-add at (entry-from 0 64 k h))
 
-  size : length table ≡ 64
+  table-length : length table ≡ 64
   unfolding powersFrom
-  size = rw whole refl
+  table-length = rw whole refl
 
-  -- a row of eight: n stands in it, or is none of its powers
+  -- a chunk of eight: n stands in it, or is none of its powers
   module _ (n first : ℕ) (h : first + 8 ≤ 64) where
-    abbrev row : List ℕ
-    row = take (first + 8 - first) (drop first table)
+    -- `table[first..first + 8]`, as the checker has it
+    abbrev chunk : List ℕ
+    chunk = take (first + 8 - first) (drop first table)
 
-    row-size : length row ≡ 8
-    row-size = length-take-le (first + 8 - first) (drop first table) (rw (length-drop, size) (omega arith)) ∙ omega arith
+    chunk-length : length chunk ≡ 8
+    chunk-length = length-take-le (first + 8 - first) (drop first table) (rw (length-drop, table-length) (omega arith)) ∙ omega arith
 
-    row-entry : (i : ℕ) → i < 8 → getD row i 0 ≡ 2 ^ (first + i)
-    row-entry i l =
+    chunk-entry : (i : ℕ) → i < 8 → getD chunk i 0 ≡ 2 ^ (first + i)
+    chunk-entry i l =
         getD-take (first + 8 - first) (drop first table) i 0 (omega arith)
         ∙ getD-drop first table i 0
         ∙ entry (first + i) (omega arith)
 
-    pub in-row : (place : ℕ) → place ≡ placeOf n row → place < 8 → n ≡ 2 ^ (first + place)
-    in-row place e l =
-        sym (placed n row (rw (row-size, sym e) l)) ∙ row-entry (placeOf n row) (rw (sym e) l) ∙ ap (λ (i : ℕ). 2 ^ (first + i)) (sym e)
+    pub in-chunk : (place : ℕ) → place ≡ placeOf n chunk → place < 8 → n ≡ 2 ^ (first + place)
+    in-chunk place e l =
+        sym (placed n chunk (rw (chunk-length, sym e) l)) ∙ chunk-entry (placeOf n chunk) (rw (sym e) l) ∙ ap (λ (i : ℕ). 2 ^ (first + i)) (sym e)
 
-    pub off-row : (place : ℕ) → place ≡ placeOf n row → 8 ≤ place → ((k : ℕ) → k < first → n ≢ 2 ^ k) → (k : ℕ) → k < first + 8 → n ≢ 2 ^ k
-    off-row place e l before k g d = go (ltb k first) refl
+    pub off-chunk : (place : ℕ) → place ≡ placeOf n chunk → 8 ≤ place → ((k : ℕ) → k < first → n ≢ 2 ^ k) → (k : ℕ) → k < first + 8 → n ≢ 2 ^ k
+    off-chunk place e l before k g d = go (ltb k first) refl
       where
         go : (t : Bool) → ltb k first ≡ t → ⊥
         go true t = before k (ltb-true k first t) d
         go false t =
             let q : first + (k - first) ≡ k = omega (arith, ltb-false k first t) in
             let i : k - first < 8 = omega (arith, ltb-false k first t) in
-            absent n row (rw (row-size, sym e) l) (k - first) (rw row-size i) (row-entry (k - first) i ∙ ap (λ (j : ℕ). 2 ^ j) q ∙ sym d)
+            absent n chunk (rw (chunk-length, sym e) l) (k - first) (rw chunk-length i) (chunk-entry (k - first) i ∙ ap (λ (j : ℕ). 2 ^ j) q ∙ sym d)
 
 -- what is found among the lowest `count` powers is one of them, and n
 found-below : (count n k : ℕ) → powerBelow count n ≡ Power k → (n ≡ 2 ^ k) × (k < count)

@@ -26,10 +26,10 @@ module _ (n : ℕ) where
   unfolding placeOf
   past list k e = rw (e, drop-length list)
 
-  -- a place in the list is that of n, and without one n does not stand in it
+  -- an answer below the length is a place of n; otherwise n is not in the list
   pub placed : (list : List ℕ) → placeOf n list < length list → getD list (placeOf n list) 0 ≡ n
   unfolding placeOf
-  placed [] h = let b : ⊥ = omega arith in absurd b
+  placed [] h = absurd (omega arith)
   placed (x ∷ xs) h = go (placed xs) (eqb x n) refl h
     where
       go : (placeOf n xs < length xs → getD xs (placeOf n xs) 0 ≡ n) → (t : Bool) → eqb x n ≡ t
@@ -39,11 +39,11 @@ module _ (n : ℕ) where
 
   pub absent : (list : List ℕ) → length list ≤ placeOf n list → (i : ℕ) → i < length list → getD list i 0 ≢ n
   unfolding placeOf
-  absent [] h i l = let b : ⊥ = omega arith in absurd b
+  absent [] h i l = absurd (omega arith)
   absent (x ∷ xs) h i l = go (absent xs) (eqb x n) refl h i l
     where
       go : (length xs ≤ placeOf n xs → (j : ℕ) → j < length xs → getD xs j 0 ≢ n) → (t : Bool) → eqb x n ≡ t
           → suc (length xs) ≤ cond t 0 (suc (placeOf n xs)) → (j : ℕ) → j < suc (length xs) → getD (x ∷ xs) j 0 ≢ n
-      go r true t g j l = let b : ⊥ = omega arith in absurd b
+      go r true t g j l = absurd (omega arith)
       go r false t g zero l = eqb-false x n t
       go r false t g (suc j) l = r (omega arith) j (omega arith)

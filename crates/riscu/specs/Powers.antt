@@ -4,7 +4,7 @@ use mathlib.Core.Bool.{cond}
 use mathlib.Core.List.{List, [], _∷_}
 use lib.Dec.{eqb}
 
--- so many powers, from 2^k on
+-- `count` powers of two, from 2^k on
 unfoldable pub powersFrom : ℕ → ℕ → List ℕ
 powersFrom k zero = []
 powersFrom k (suc count) = 2 ^ k ∷ powersFrom (suc k) count

@@ -2,7 +2,7 @@
 ghost use mathlib.Core.Path.{_≡_};
 ghost use Rattle.riscu.specs.Powers.{powersFrom};
 
-const TABLE: [u64; 64] = [
+const POWERS_OF_TWO: [u64; 64] = [
     0x1,
     0x2,
     0x4,
@@ -73,5 +73,5 @@ const TABLE: [u64; 64] = [
 pub(crate) fn powers() -> [u64; 64]
     ensures { λ r. ⌜ r ≡ powersFrom 0 64 ⌝ }
 {
-    TABLE
+    POWERS_OF_TWO
 }

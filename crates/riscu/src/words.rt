@@ -103,7 +103,7 @@ pub fn widen(z: i64) -> u64
     }
 }
 
-// The place of n in a list, or the list's length.
+// The first place of n in a list, or the list's length.
 fn place_of(n: u64, list: &[u64]) -> usize
     ensures { λ r. ⌜ r ≡ placeOf n (now (list .entry)) ⌝ }
 {
@@ -117,21 +117,21 @@ fn place_of(n: u64, list: &[u64]) -> usize
     k
 }
 
-// Entries in a row of the search: loops as short as this are unrolled whole, and no table is built at run time.
-const ROW: usize = 8;
+// Loops as short as this are unrolled whole, and no table is built at run time.
+const CHUNK: usize = 8;
 
-// The table is searched row by row.
+// The place of n in the table is its exponent. The table is searched in chunks.
 pub fn power_of(n: u64) -> Exponent
     ensures { λ r. ⌜ r ≡ powerOf n ⌝ }
 {
     let table = powers();
     let mut first: usize = 0;
     while first < 64 {
-        let place = place_of(n, &table[first..first + ROW]);
-        if place < ROW {
+        let place = place_of(n, &table[first..first + CHUNK]);
+        if place < CHUNK {
             return Exponent::Power(first + place);
         }
-        first += ROW;
+        first += CHUNK;
     }
     Exponent::NotPower
 }

@@ -1,4 +1,4 @@
-use Rattle.riscu.proofs.Powers.{in-row, off-row, power-law}
+use Rattle.riscu.proofs.Powers.{in-chunk, off-chunk, power-law}
 use borrow.Author.Needs.{needs}
 use native.Mathlib.Omega.{arith}
 use Prim.Native.Nat.{ℕ, _-_, _%_, _^_, _<_, _≤_}
@@ -7,7 +7,7 @@ use mathlib.Core.Path.{_≡_, sym}
 use Rattle.riscu.proofs.words.power_of.Statement.{statement}
 use Rattle.riscu.proofs.words.power_of.Tie as tie
 
--- the entries before are whole rows, and none of them is n
+-- the entries before are whole chunks, and none of them is n
 abbrev Inv-loop : tie.InvT-loop
 Inv-loop n table first₀ first = (first ≤ 64) × (first % 8 ≡ 0) × ((k : ℕ) → k < first → n ≢ 2 ^ k)
 
@@ -23,7 +23,7 @@ returns c =
     let t = l .before .powers in
     let n = l .before .before .args .n in
     let p = c .before .place-of in
-    sym (power-law n .finds _ (in-row (t .result) (t .ensures) n (l .loop .first) (omega arith) (p .result) (p .ensures) (c .if1 .taken)) (omega arith))
+    sym (power-law n .finds _ (in-chunk (t .result) (t .ensures) n (l .loop .first) (omega arith) (p .result) (p .ensures) (c .if1 .taken)) (omega arith))
 
 loop-again : tie.Need-loop-again Inv-loop μ-loop
 loop-again c =
@@ -31,7 +31,7 @@ loop-again c =
     let t = l .before .powers in
     let n = l .before .before .args .n in
     let p = c .before .place-of in
-    let off = off-row (t .result) (t .ensures) n (l .loop .first) (omega arith) (p .result) (p .ensures) (omega arith) (l .loop .inv .2) in
+    let off = off-chunk (t .result) (t .ensures) n (l .loop .first) (omega arith) (p .result) (p .ensures) (omega arith) (l .loop .inv .2) in
     (search needs, search needs, λ k h. off k (omega arith))
 
 returns-2 : tie.Need-returns-2 Inv-loop μ-loop
