@@ -117,7 +117,7 @@ fn place_of(n: u64, list: &[u64]) -> usize
     k
 }
 
-// Loops as short as this are unrolled whole, and no table is built at run time.
+// The compiler unrolls loops as short as this whole, and then builds no table at run time.
 const CHUNK: usize = 8;
 
 // The place of n in the table is its exponent. The table is searched in chunks.
