@@ -23,8 +23,8 @@ const RUNS: usize = 15;
 // ---------------------------------------------------------------------------------------------
 // Measuring.
 
-/// The median of the runs' nanoseconds, each run being `repeats` calls.
-fn median_ns(repeats: u32, mut call: impl FnMut()) -> f64 {
+/// The runs' nanoseconds in rising order, each run being `repeats` calls.
+fn run_ns(repeats: u32, mut call: impl FnMut()) -> Vec<f64> {
     call();
     let mut times: Vec<f64> = (0..RUNS)
         .map(|_| {
@@ -34,7 +34,11 @@ fn median_ns(repeats: u32, mut call: impl FnMut()) -> f64 {
         })
         .collect();
     times.sort_by(f64::total_cmp);
-    times[RUNS / 2]
+    times
+}
+
+fn median_ns(repeats: u32, call: impl FnMut()) -> f64 {
+    run_ns(repeats, call)[RUNS / 2]
 }
 
 /// What a call lends: a job, and room for so many entries and paths.
@@ -216,15 +220,15 @@ fn busy_loop(turns: u64, low: u64, high: u64) -> Call {
     call
 }
 
-/// Multiplies and divides the input by `power` in a loop of `turns` turns and seven steps each. One path
-/// for a power that leaves 20..30 in one class.
-fn scaling_loop(turns: u64, power: u64) -> Call {
+/// Multiplies and divides the input by `factor` in a loop of `turns` turns and seven steps each. One path
+/// for a factor that leaves 20..30 in one class.
+fn scaling_loop(turns: u64, factor: u64) -> Call {
     let start = [ld(6, 256, 0), ld(7, 264, 0)];
     let turn = [mul(28, 5, 7), divu(29, 28, 7), mul(30, 29, 7), divu(5, 30, 7)];
     let back = [addi(6, 6, -1), beq(6, 0, 8), jal(0, -24)];
     let mut call = call(reads(&[&start[..], &turn, &back].concat()), 20, 30, 1);
     call.memory[32] = turns;
-    call.memory[33] = power;
+    call.memory[33] = factor;
     // five writes in each turn
     call.entries = 5 * turns as usize + 16;
     call
@@ -272,6 +276,74 @@ fn compared_often(forks: u32) -> Call {
         work.extend([addi(6, 6, 1000), sltu(10, 5, 6)]);
     }
     call(reads(&work), 0, MAX, 1)
+}
+
+// ---------------------------------------------------------------------------------------------
+// Probes. Each runs from the start to the fork: with a long way to it, they are counted by their time.
+
+/// A value of the input v, by two numbers a and b: its name, its instructions (v is in register 5, a in 28,
+/// b in 29, and the value in 7) and what they give.
+type Value = (&'static str, fn() -> Vec<u32>, fn(u64, u64, u64) -> u64);
+
+const VALUES: [Value; 5] = [
+    ("v", || vec![addi(7, 5, 0)], |v, _, _| v),
+    ("v * a", || vec![mul(7, 5, 28)], |v, a, _| v * a),
+    ("v / a", || vec![divu(7, 5, 28)], |v, a, _| v / a),
+    ("v * a / b", || vec![mul(7, 5, 28), divu(7, 7, 29)], |v, a, b| v * a / b),
+    ("v / a * b", || vec![divu(7, 5, 28), mul(7, 7, 29)], |v, a, b| v / a * b),
+];
+
+/// 2,000 turns that only count, and then the work, with three numbers in the registers 28, 29 and 30.
+fn far_work(work: &[u32], numbers: [u64; 3], ends: Interval) -> Call {
+    let loads = [ld(6, 256, 0), ld(28, 264, 0), ld(29, 272, 0), ld(30, 280, 0)];
+    let turn = [addi(6, 6, -1), beq(6, 0, 8), jal(0, -8)];
+    let mut call = call(reads(&[&loads[..], &turn, work].concat()), ends.0, ends.1, 1);
+    call.memory[32] = 2_000;
+    call.memory[33..36].copy_from_slice(&numbers);
+    call.entries = 2_032;
+    call
+}
+
+/// The fastest run, and the last input of the first of two paths.
+fn cut_ns(call: &Call) -> (f64, u64) {
+    let (mut table, mut report) = call.room();
+    let reply = call.make(&mut table, &mut report);
+    assert!(reply.refused == 0 && reply.count == 2, "{reply:?}");
+    let records = read_pages(&report[..2 * path_bytes(1)], 1).expect("a page of the library");
+    let ns = run_ns(1, || {
+        black_box(call.make(&mut table, &mut report));
+    });
+    (ns[0], records[0].intervals[0].1)
+}
+
+/// The probes of the one cut of a box. Two values around the cut need none, and three need one.
+fn probes(work: &[u32], numbers: [u64; 3], ends: Interval) -> f64 {
+    let ns = |ends| cut_ns(&far_work(work, numbers, ends));
+    let (whole, last) = ns(ends);
+    let (none, one) = (ns((last, last + 1)).0, ns((last - 1, last + 1)).0);
+    (whole - none) / (one - none)
+}
+
+/// Haul times of some hours in seconds, from any second on.
+fn haul_times(random: &mut Random) -> Interval {
+    let low = 3600 + random.below(3600) as u64;
+    (low, low + 7200 + random.below(80_000) as u64)
+}
+
+/// Compared with the number that it is at some input.
+fn compared_probes(random: &mut Random, value: &Value, a: u64, b: u64) -> f64 {
+    let (_, work, given) = value;
+    let (low, high) = haul_times(random);
+    let at = random.between((low + 200, high - 200));
+    probes(&[work(), vec![sltu(10, 7, 30)]].concat(), [a, b, given(at, a, b)], (low, high))
+}
+
+/// A product that passes a multiple of 2^64.
+fn passing_probes(random: &mut Random, a: u64) -> f64 {
+    let passed = 1 + random.below(a as usize - 1) as u128;
+    let first = ((passed << 64).div_ceil(a as u128)) as u64;
+    let (below, above) = (random.below(1 << 40) as u64, random.below(1 << 40) as u64);
+    probes(&[mul(7, 5, 28)], [a, 0, 0], (first - 2 - below, first + 1 + above))
 }
 
 // ---------------------------------------------------------------------------------------------
@@ -403,19 +475,51 @@ fn print_against_plain() {
     println!("| engine, without the table's clearing | {:.1} | {:.1} |", own / steps, own / plain);
 }
 
-/// The first power is the usual kind in a rule; the others stand in the middle and near the end of the 64.
 fn print_scaling() {
     println!("\n## Products and quotients\n");
-    println!("| power | steps | plain interpreter, ns a step | engine, ns a step | ratio |");
+    println!("| factor | steps | plain interpreter, ns a step | engine, ns a step | ratio |");
     println!("|---|---|---|---|---|");
-    for exponent in [3, 32, 60] {
-        let call = scaling_loop(8_000, 1 << exponent);
+    for factor in [8, 60, 1 << 32, 1_000_000_007] {
+        let call = scaling_loop(8_000, factor);
         let (cost, steps) = (call.cost(3), run_plain(&call, &[20]));
         assert_eq!((cost.paths, cost.steps), (1, steps), "the two run the same steps");
         let plain = plain_ns(&call);
         let (own, others, ratio) = (cost.ns / steps as f64, plain / steps as f64, cost.ns / plain);
-        println!("| 2^{exponent} | {steps} | {others:.1} | {own:.1} | {ratio:.1} |");
+        println!("| {factor} | {steps} | {others:.1} | {own:.1} | {ratio:.1} |");
     }
+}
+
+/// Cuts of one kind that are counted.
+const CUTS: usize = 20;
+
+fn print_probes() {
+    println!("\n## Probes of a cut\n");
+    println!("| value | a, b | cuts | probes a cut | most |\n|---|---|---|---|---|");
+    let numbers: [&[(u64, u64)]; 5] = [
+        &[(1, 1)],
+        &[(64, 1), (60, 1)],
+        &[(64, 1), (60, 1)],
+        &[(64, 8), (60, 7)],
+        &[(64, 64), (60, 60)],
+    ];
+    for (value, pairs) in VALUES.iter().zip(numbers) {
+        for &(a, b) in pairs {
+            let random = &mut Random(1);
+            let count = || compared_probes(random, value, a, b);
+            print_counts(&format!("{}, compared | {a}, {b}", value.0), count);
+        }
+    }
+    for a in [64, 60] {
+        let random = &mut Random(1);
+        print_counts(&format!("v * a past 2^64 | {a}"), || passing_probes(random, a));
+    }
+}
+
+fn print_counts(name: &str, count: impl FnMut() -> f64) {
+    let counts: Vec<f64> = std::iter::repeat_with(count).take(CUTS).collect();
+    let mean = counts.iter().sum::<f64>() / CUTS as f64;
+    let most = counts.iter().copied().fold(0.0, f64::max);
+    println!("| {name} | {CUTS} | {mean:.1} | {most:.1} |");
 }
 
 fn print_typical_jobs() {
@@ -535,6 +639,7 @@ fn print_placed(report: &[u8], rows: &[u64], repeats: u32) {
 fn main() {
     print_against_plain();
     print_scaling();
+    print_probes();
     print_typical_jobs();
     print_growth();
     print_single_calls();

@@ -2,7 +2,7 @@
 //!
 //! A job is a list of calls on one memory and one table. Small boxes are compared with the brute
 //! force byte for byte; large ones with single runs of the plain machine. Before them come products
-//! and quotients by each power of two and by its neighbours.
+//! and quotients by numbers of all sizes.
 //! `explore_test [SEED COUNT]`: job k of a run has the seed SEED + k.
 
 #[allow(dead_code)] // rows are placed by place_test
@@ -12,14 +12,14 @@ mod listing_check;
 mod oracle;
 mod programs;
 
-use formats::assembler::{divu, ld, mul, reads};
+use formats::assembler::{addi, beq, divu, ld, mul, reads, sltu};
 use formats::blocks::flat;
 use formats::limits::*;
-use formats::numbers::{kind_occurs, CALL_REFUSALS, KINDS, REASONS};
+use formats::numbers::{kind_occurs, reason_occurs, CALL_REFUSALS, KINDS, REASONS};
 use formats::random::Random;
 use formats::show::code_line;
 use library::Reply;
-use oracle::{Interval, Job, Met, Path, TO_MEET};
+use oracle::{Interval, Job, Met, Path, TO_MEET, TO_MEET_FIXED};
 use programs::{input_count, large_box, memory_for, program, small_box};
 use std::collections::BTreeSet;
 
@@ -466,17 +466,21 @@ impl Tally {
 
     fn is_complete(&self) -> bool {
         let seen = |counts: &[u64]| counts.iter().all(|&count| count > 0);
-        // a kind that does not occur must never have been seen
-        let kinds = (1..=KINDS).all(|kind| (self.kinds[kind as usize] > 0) == kind_occurs(kind));
-        let numbered = kinds && seen(&self.reasons[1..]) && seen(&self.refusals[1..]);
-        numbered && seen(&self.met.concat())
+        // what does not occur must never have been seen
+        let right = |counts: &[u64], occurs: fn(u64) -> bool| {
+            (1..).zip(&counts[1..]).all(|(number, &count)| (count > 0) == occurs(number))
+        };
+        let ends = right(&self.kinds, kind_occurs) && right(&self.reasons, reason_occurs);
+        let [fixed, open] = &self.met;
+        ends && seen(&self.refusals[1..]) && seen(&fixed[..TO_MEET_FIXED]) && seen(open)
     }
 
     fn print(&self) {
         println!("kinds 1 to {KINDS}: {:?}", &self.kinds[1..]);
         println!("reasons 1 to {REASONS}: {:?}", &self.reasons[1..]);
         println!("refusals 1 to {CALL_REFUSALS}: {:?}", &self.refusals[1..]);
-        for (operand, counts) in ["a fixed", "an open"].iter().zip(&self.met) {
+        let [fixed, open] = &self.met;
+        for (operand, counts) in [("a fixed", &fixed[..TO_MEET_FIXED]), ("an open", open)] {
             let count = |(name, count)| format!("{name} {count}");
             let counts: Vec<String> = TO_MEET.iter().zip(counts).map(count).collect();
             println!("programs with {operand} operand in {}", counts.join(", "));
@@ -542,37 +546,102 @@ fn run_calls(
     Ok(())
 }
 
-/// MUL from both sides and DIVU of an open input by each power of two and by its two neighbours.
-fn run_scaling() -> Result<u64, Failure> {
+/// Powers of two with their neighbours, and others.
+fn numbers() -> BTreeSet<u64> {
+    let powers = (0..u64::BITS).map(|exponent| 1 << exponent);
+    let near = powers.flat_map(|power: u64| [power - 1, power, power + 1]);
+    let small = [7, 10, 60, 100, 1000, 3600, 86400];
+    let large = [u64::MAX / 60, u64::MAX / 7, u64::MAX / 3, u64::MAX - 1, u64::MAX];
+    near.chain(small).chain(large).collect()
+}
+
+/// An instruction on an input and a number, with a box and the value of it to compare at.
+type Scaling = (u32, Interval, u64);
+
+/// MUL from both sides on boxes around the first product that wraps, and DIVU on boxes around the
+/// lowest and the highest multiple.
+fn scalings(number: u64) -> Vec<Scaling> {
+    // by 0 and by 1 there is no edge, and any box will do
+    let wraps = (1_u128 << u64::BITS).div_ceil(number.max(2) as u128) as u64;
+    let narrow = (wraps - 1, wraps);
+    // by the highest numbers this one has more than two quotients
+    let wide = (wraps.saturating_sub(4), wraps + 3);
+    let highest = u64::MAX - u64::MAX % number.max(1);
+    let around = |edge: u64| (edge.saturating_sub(3), edge.saturating_add(3));
+    let product = |word| [(word, narrow, wraps), (word, wide, wraps - 2), (word, wide, wraps + 2)];
+    let quotient = |edge| (divu(28, 5, 6), around(edge), edge);
+    let products = [mul(28, 5, 6), mul(28, 6, 5)].into_iter().flat_map(product);
+    products.chain([quotient(number), quotient(highest)]).collect()
+}
+
+/// How many jobs there were, and how many of them fork.
+fn run_scalings() -> Result<(u64, u64), Failure> {
     let random = &mut Random(FIRST_SEED);
-    let mut jobs = 0;
-    for exponent in 0..u64::BITS {
-        for factor in [(1 << exponent) - 1, 1 << exponent, (1 << exponent) + 1] {
-            for word in [mul(10, 5, 6), mul(10, 6, 5), divu(10, 5, 6)] {
-                run_scaled(random, factor, word)?;
-                jobs += 1;
+    let (mut jobs, mut forks) = (0, 0);
+    for number in numbers() {
+        for scaling in scalings(number) {
+            for compare in [&[sltu(10, 28, 7)][..], &[beq(28, 7, 8), addi(10, 0, 1)]] {
+                let paths = run_scaling(random, number, scaling, compare)?;
+                (jobs, forks) = (jobs + 1, forks + (paths > 1) as u64);
             }
         }
     }
-    Ok(jobs)
+    Ok((jobs, forks))
 }
 
-fn run_scaled(random: &mut Random, factor: u64, word: u32) -> Result<(), Failure> {
+/// Memory with two numbers among the constants, which a failure shows.
+fn lent_numbers(random: &mut Random, numbers: [u64; 2]) -> Lent {
     let mut memory = vec![0; MEMORY_WORDS];
-    // among the constants, which a failure shows
-    let place = programs::CONSTANT_WORDS.start;
-    memory[place] = factor;
-    let mut lent = lent(random, &memory, USUAL_TABLE_WORDS);
-    let code = reads(&[ld(6, 8 * place as i64, 0), word]);
-    // a product by 2^63 divides these three into two classes
-    let job = Job { code, memory, limit: 100, intervals: vec![(1, 3)], entries: lent.entries() };
+    memory[programs::CONSTANT_WORDS][..2].copy_from_slice(&numbers);
+    lent(random, &memory, USUAL_TABLE_WORDS)
+}
+
+/// A job that loads the first of them into register 6 and the second into register 7.
+fn numbers_job(lent: &Lent, work: &[u32], boxed: Interval) -> Job {
+    let address = 8 * programs::CONSTANT_WORDS.start as i64;
+    let code = reads(&[&[ld(6, address, 0), ld(7, address + 8, 0)], work].concat());
+    let (memory, intervals) = (lent.memory().to_vec(), vec![boxed]);
+    Job { code, memory, limit: 100, intervals, entries: lent.entries() }
+}
+
+/// What the instruction gives is compared with what it gives for one value; tells the paths.
+fn run_scaling(
+    random: &mut Random,
+    number: u64,
+    (word, boxed, value): Scaling,
+    compare: &[u32],
+) -> Result<usize, Failure> {
+    let mut lent = lent_numbers(random, [number, value]);
+    // the input is at address 0
+    let on_value = [addi(5, 7, 0), word, addi(7, 28, 0), ld(5, 0, 0)];
+    let job = numbers_job(&lent, &[&on_value[..], &[word], compare].concat(), boxed);
     let (listing, met) = oracle::listing_and_met(&job);
+    let paths = listing.len();
     let mut task = Task::new(job, listing, met);
     while task.next.is_some() {
         let page = next_page(random, &mut lent, &mut task);
         page.map_err(|fault| failure(&lent, &task.job, fault))?;
     }
-    Ok(())
+    Ok(paths)
+}
+
+/// MUL on boxes from 0 to the last value with two quotients, and to the next, which has reason 5.
+fn run_wide_products() -> Result<u64, Failure> {
+    let random = &mut Random(FIRST_SEED);
+    let mut jobs = 0;
+    // the product by 2 has two quotients at most
+    for &number in numbers().range(3..) {
+        let third = (2_u128 << u64::BITS).div_ceil(number as u128) as u64;
+        for high in [third - 1, third] {
+            let mut lent = lent_numbers(random, [number, 0]);
+            let job = numbers_job(&lent, &[mul(10, 5, 6)], (0, high));
+            let mut task = Task::new(job, Vec::new(), BTreeSet::new());
+            let listing = own_listing(random, &mut lent, &mut task);
+            listing.map_err(|fault| failure(&lent, &task.job, fault))?;
+            jobs += 1;
+        }
+    }
+    Ok(jobs)
 }
 
 fn show(which: &str, failure: &Failure) {
@@ -595,12 +664,14 @@ fn arguments() -> (u64, u64) {
 
 fn main() {
     let (seed, count) = arguments();
-    match run_scaling() {
-        Ok(jobs) => {
-            println!("{jobs} products and quotients by powers of two and neighbours, 0 differ")
-        }
+    let scaled = run_scalings().and_then(|counts| Ok((counts, run_wide_products()?)));
+    match scaled {
+        Ok(((jobs, forks), wide)) => println!(
+            "{jobs} products and quotients by numbers of all sizes, {forks} fork, and {wide} \
+             products on large boxes, 0 differ"
+        ),
         Err(failure) => {
-            show("by a power of two or its neighbour", &failure);
+            show("of a product or quotient", &failure);
             std::process::exit(1)
         }
     }
@@ -618,7 +689,7 @@ fn main() {
     tally.print();
     let unseen = count >= ENOUGH_JOBS && !tally.is_complete();
     if unseen {
-        println!("one of these was never seen, or a kind that does not occur was");
+        println!("one of these was never seen, or a kind or reason that does not occur was");
     }
     println!("{count} jobs, {differ} differ");
     if differ > 0 || unseen {

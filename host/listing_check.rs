@@ -3,7 +3,7 @@
 use crate::oracle::{end_by_corners, run_plain, trace_plain, write_page};
 use crate::oracle::{Interval, Job, Path, Step, NOT_FOLLOWED, STEP_LIMIT};
 use formats::limits::{path_bytes, REGISTERS};
-use formats::numbers::{kind_occurs, REASONS};
+use formats::numbers::{kind_occurs, reason_occurs};
 use formats::random::Random;
 use formats::report::{read_pages, Record};
 
@@ -113,8 +113,11 @@ fn highs(path: &Path) -> Vec<u64> {
 // Single runs.
 
 fn check_path(random: &mut Random, job: &Job, path: &Path) -> Result<(), String> {
-    let reasoned = (1..=REASONS).contains(&path.reason);
-    if !kind_occurs(path.kind) || reasoned != (path.kind == NOT_FOLLOWED) {
+    let reasoned = match path.kind {
+        NOT_FOLLOWED => reason_occurs(path.reason),
+        _ => path.reason == 0,
+    };
+    if !kind_occurs(path.kind) || !reasoned {
         return Err(format!("kind {} with reason {}", path.kind, path.reason));
     }
     if path.steps > job.limit || (path.steps == job.limit) != (path.kind == STEP_LIMIT) {

@@ -5,12 +5,14 @@
 mod oracle;
 
 use formats::assembler::{self, *};
-use formats::numbers::{kind_occurs, KINDS, REASONS};
+use formats::numbers::{kind_occurs, reason_occurs, KINDS, REASONS};
 use oracle::{Interval, Job, Path};
 use std::fmt::Write;
 
 const MAX: u64 = u64::MAX;
 const HALF: u64 = 1 << 63;
+/// The highest value whose product by 60 is below 2^64.
+const SIXTIETH: u64 = MAX / 60;
 
 // ---------------------------------------------------------------------------------------------
 // Examples: a job and its name.
@@ -106,14 +108,10 @@ fn operand_reasons() -> Vec<Example> {
         reading("ADD of one open register twice", 3, 6, &[add(10, 5, 5)]),
         reading("MUL of one open register twice", 3, 6, &[mul(10, 5, 5)]),
         reading_two("SLTU of two inputs", (3, 4), (4, 5), &[sltu(10, 5, 7)]),
-        reading("MUL by 3", 3, 6, &[addi(6, 0, 3), mul(10, 6, 5)]),
-        reading("DIVU by 3", 3, 6, &[addi(6, 0, 3), divu(10, 5, 6)]),
         reading("DIVU by an open divisor", 3, 6, &[divu(10, 5, 5)]),
         reading("REMU by an open divisor", 0, 3, &[remu(10, 0, 5)]),
         reading("0..10 mod 5", 0, 10, &[addi(6, 0, 5), remu(10, 5, 6)]),
         reading("MUL by 2^63 with three quotients", 0, 4, &times_half).memory(&[0, 0, HALF]),
-        reading("MUL of fixed values by 3", 5, 5, &[addi(6, 0, 3), mul(10, 5, 6)]),
-        reading("DIVU of fixed values by 3", 5, 5, &[addi(6, 0, 3), divu(10, 5, 6)]),
         reading("LD with an open base", 0, 3, &[ld(10, 4, 5)]),
         reading("SD with an open base", 0, 3, &[sd(5, 0, 5)]),
         reading("JALR with an open base", 0, 3, &[jalr(0, 0, 5)]),
@@ -407,6 +405,89 @@ fn by_zero_entries() -> Vec<Example> {
     ]
 }
 
+/// A program with an input in register 5 and 60 in register 6.
+fn sixty(name: &'static str, low: u64, high: u64, work: &[u32]) -> Example {
+    reading(name, low, high, &[&[addi(6, 0, 60)], work].concat())
+}
+
+/// No. 5 of document 02: MUL by any fixed number, with a fork where the quotient changes.
+fn any_factor() -> Vec<Example> {
+    let product = [mul(10, 5, 6)];
+    let by_word = [ld(6, 16, 0), mul(10, 5, 6)];
+    let twice = [ld(7, 16, 0), mul(28, 5, 7), mul(10, 28, 6)];
+    let falling = [ld(7, 16, 0), sub(7, 7, 5), mul(10, 7, 6)];
+    let negated = [ld(6, 16, 0), sub(7, 0, 5), mul(10, 7, 6)];
+    let (highest, wraps) = ([0, 0, MAX], SIXTIETH + 1);
+    vec![
+        reading("MUL by 3", 3, 6, &[addi(6, 0, 3), mul(10, 6, 5)]),
+        reading("MUL of fixed values by 3", 5, 5, &[addi(6, 0, 3), mul(10, 5, 6)]),
+        sixty("MUL by 60, the wrap", SIXTIETH - 3, SIXTIETH + 4, &product),
+        sixty("MUL with 60 first, the wrap", SIXTIETH, SIXTIETH + 2, &[mul(10, 6, 5)]),
+        sixty("MUL of fixed values by 60 wraps", wraps, wraps, &[mul(10, 6, 5)]),
+        sixty("MUL into register 0 by 60", SIXTIETH, wraps, &[mul(0, 5, 6)]),
+        sixty("MUL by 60, an entry too few for the fork", SIXTIETH, wraps, &product).entries(7),
+        sixty("MUL by 60, no entry after the fork", SIXTIETH, wraps, &product).entries(8),
+        sixty("v * 2^56 * 60 with two quotients", 0, 8, &twice).memory(&[0, 0, 1 << 56]),
+        sixty("v * 2^56 * 60 with three quotients", 0, 9, &twice).memory(&[0, 0, 1 << 56]),
+        reading("MUL by MAX with two quotients", 0, 2, &by_word).memory(&highest),
+        reading("MUL by MAX with three quotients", 0, 3, &by_word).memory(&highest),
+        sixty("a falling value times 60", 0, 5, &falling).memory(&[0, 0, SIXTIETH + 3]),
+        reading("0 - v times MAX", 1, 2, &negated).memory(&highest),
+    ]
+}
+
+/// No. 5 of document 02: DIVU by any fixed number above 0, with no fork.
+fn any_divisor() -> Vec<Example> {
+    let above_0 = [ld(6, 16, 0), divu(7, 5, 6), sltu(10, 0, 7)];
+    let less = [divu(7, 5, 6), addi(28, 0, 10), sltu(10, 7, 28)];
+    let equal = [divu(7, 5, 6), addi(28, 0, 10), beq(7, 28, 8), addi(10, 0, 1)];
+    let equal_3 = [addi(6, 0, 3), divu(7, 5, 6), beq(7, 6, 8), addi(10, 7, 0)];
+    let falling = [addi(7, 0, 620), sub(7, 7, 5), divu(7, 7, 6), addi(28, 0, 10), sltu(10, 7, 28)];
+    let negated = [sub(7, 0, 5), divu(7, 7, 6), ld(28, 16, 0), beq(7, 28, 8), addi(10, 0, 1)];
+    vec![
+        reading("DIVU by 3", 3, 6, &[addi(6, 0, 3), divu(10, 5, 6)]),
+        reading("DIVU of fixed values by 3", 5, 5, &[addi(6, 0, 3), divu(10, 5, 6)]),
+        reading("DIVU by 1", 3, 6, &[addi(6, 0, 1), divu(10, 5, 6)]),
+        reading("DIVU by MAX, then SLTU", MAX - 2, MAX, &above_0).memory(&[0, 0, MAX]),
+        sixty("DIVU by 60 does not fork", 595, 604, &[divu(10, 5, 6)]),
+        sixty("DIVU into register 0 by 60", 595, 604, &[divu(0, 5, 6)]),
+        sixty("DIVU by 60, one entry left", 598, 601, &[divu(10, 5, 6)]).entries(7),
+        sixty("DIVU by 60, then SLTU", 595, 604, &less),
+        sixty("DIVU by 60, then BEQ", 595, 604, &equal),
+        reading("DIVU by 3, then BEQ with three pieces", 5, 13, &equal_3),
+        sixty("a falling value over 60, then SLTU", 16, 24, &falling),
+        sixty("0 - v over 60, then BEQ", 13, 20, &negated).memory(&[0, 0, SIXTIETH]),
+    ]
+}
+
+/// No. 5 of document 02: cuts through products and quotients, and both in turn.
+fn scaled_used() -> Vec<Example> {
+    let less = [mul(7, 5, 6), addi(28, 0, 301), sltu(10, 7, 28)];
+    let equal = [mul(7, 5, 6), addi(28, 0, 300), beq(7, 28, 8), addi(10, 0, 1)];
+    let rounded_less = [divu(7, 5, 6), mul(7, 7, 6), addi(28, 0, 541), sltu(10, 7, 28)];
+    let rest = [divu(7, 5, 6), mul(7, 7, 6), sub(10, 5, 7)];
+    let based = [divu(7, 5, 6), ld(10, 8, 7)];
+    let cut = [divu(7, 5, 6), addi(28, 0, 600), sltu(29, 5, 28), add(10, 7, 5)];
+    let seven = |work: [u32; 2]| [&[addi(6, 0, 3), addi(7, 0, 7)], &work[..]].concat();
+    let first = [addi(6, 0, 3), mul(28, 5, 6), addi(29, 0, 13), sltu(29, 28, 29)];
+    let both = [&first[..], &[divu(28, 7, 6), addi(29, 0, 2), sltu(10, 28, 29)]].concat();
+    vec![
+        sixty("v * 60 < 301", 3, 8, &less),
+        sixty("v * 60 is 300, with three pieces", 3, 8, &equal),
+        sixty("v * 60 / 60", SIXTIETH - 2, SIXTIETH + 3, &[mul(7, 5, 6), divu(10, 7, 6)]),
+        sixty("v / 60 * 60", 595, 604, &[divu(7, 5, 6), mul(10, 7, 6)]),
+        sixty("v / 60 * 60 < 541", 595, 604, &rounded_less),
+        sixty("v - v / 60 * 60", 595, 604, &rest),
+        sixty("v mod 60", 595, 604, &[remu(10, 5, 6)]),
+        sixty("v / 60 is fixed, then LD", 484, 489, &based).memory(&[0, 0, 7]),
+        sixty("v / 60 is fixed, then ADD", 540, 545, &[divu(7, 5, 6), add(10, 7, 5)]),
+        sixty("a cut fixes v / 60, then ADD", 595, 604, &cut),
+        reading("v / 3 mod 7", 17, 24, &seven([divu(28, 5, 6), remu(10, 28, 7)])),
+        reading("v * 3 mod 7 with three quotients", 1, 5, &seven([mul(28, 5, 6), remu(10, 28, 7)])),
+        reading_two("v * 3 < 13, then w / 3 < 2", (3, 5), (4, 6), &both),
+    ]
+}
+
 /// A table of the file: its name, what it shows, and its examples.
 struct Table {
     name: &'static str,
@@ -418,7 +499,7 @@ fn tables() -> Vec<Table> {
     let table = |name, shows, examples| Table { name, shows, examples };
     vec![
         table("endings", "kinds 1 and 3 to 7", plain_ends()),
-        table("operands", "reasons 1 to 6", operand_reasons()),
+        table("operands", "reasons 1 and 4 to 6", operand_reasons()),
         table("calls", "reason 7", call_reasons()),
         table("sums", "forks where the wrap of a sum or a difference changes", sum_forks()),
         table("products", "forks where a quotient changes", product_forks()),
@@ -435,6 +516,9 @@ fn tables() -> Vec<Table> {
         table("by-zero", "DIVU and REMU by a fixed 0", by_zero()),
         table("by-zero-used", "what DIVU and REMU by 0 give, used", by_zero_used()),
         table("by-zero-entries", "DIVU and REMU by 0 and the entries", by_zero_entries()),
+        table("any-factor", "MUL by any fixed number", any_factor()),
+        table("any-divisor", "DIVU by any fixed number", any_divisor()),
+        table("scaled-used", "what MUL and DIVU by any number give, used", scaled_used()),
     ]
 }
 
@@ -453,13 +537,23 @@ const END_NAMES: [(u64, &str); 8] = [
     (oracle::TRACE_FULL, "TraceFull"),
 ];
 
-const REASON_NAMES: [&str; REASONS as usize] =
-    ["BothOpen", "Multiplier", "Divisor", "DivisorOpen", "Quotients", "BaseOpen", "CallOpen"];
+/// The case of Reason for each reason that occurs.
+const REASON_NAMES: [(u64, &str); 5] = [
+    (oracle::BOTH_OPEN, "BothOpen"),
+    (oracle::DIVISOR_OPEN, "DivisorOpen"),
+    (oracle::QUOTIENTS, "Quotients"),
+    (oracle::BASE_OPEN, "BaseOpen"),
+    (oracle::CALL_OPEN, "CallOpen"),
+];
+
+fn name_of(names: &[(u64, &'static str)], number: u64) -> &'static str {
+    names.iter().find(|named| named.0 == number).expect("a number that occurs").1
+}
 
 fn end_text(kind: u64, reason: u64) -> String {
-    let (_, name) = END_NAMES.iter().find(|end| end.0 == kind).expect("a kind that occurs");
+    let name = name_of(&END_NAMES, kind);
     if kind == oracle::NOT_FOLLOWED {
-        format!("({name} {})", REASON_NAMES[reason as usize - 1])
+        format!("({name} {})", name_of(&REASON_NAMES, reason))
     } else {
         name.to_string()
     }
@@ -597,15 +691,14 @@ use lib.ListN.{length, set, replicate}
 use Rattle.boxes.specs.Boxes.{Box, Interval, _⋯_, from, width, values, choices, size}
 use Rattle.boxes.specs.Boxes.{best, least, greatest, every, same, low, high, fixed}
 use Rattle.boxes.specs.Boxes.{keep, classes, hull, piece, pieces}
-use Rattle.riscu.specs.Word.{signed, widen, powerBelow}
+use Rattle.riscu.specs.Word.{signed, widen}
 use Rattle.riscu.specs.Decode.{rows, search, decodeOf}
 use Rattle.riscu.specs.Machine.{start, operate, readNext, step, fetch, stepDecoded, run}
 use Rattle.listing.specs.Group.{Job, after, sortOf, comparison, sortingOf, classBy, classOf}
-use Rattle.listing.specs.Ending.{first, anyPower, operationPoints, operandPoints, addressPoints, points}
+use Rattle.listing.specs.Ending.{first, operationPoints, operandPoints, addressPoints, points}
 use Rattle.listing.specs.Ending.{writes, needs, endAt, endBy}
 use Rattle.listing.specs.Listing.{Path, pathOf, splitBy, moveBy, moveFrom, moves, begin, enough, listing}
-use Rattle.listing.specs.declared.Reason.the-variants.{BothOpen, Multiplier, Divisor, DivisorOpen}
-use Rattle.listing.specs.declared.Reason.the-variants.{Quotients, BaseOpen, CallOpen}
+use Rattle.listing.specs.declared.Reason.the-variants.{BothOpen, DivisorOpen, Quotients, BaseOpen, CallOpen}
 use Rattle.listing.specs.declared.End.{End}
 use Rattle.listing.specs.declared.End.the-variants.{Exit, BadPc, BadWord, BadAddress}
 use Rattle.listing.specs.declared.End.the-variants.{BadCall, StepLimit, NotFollowed, TraceFull}
@@ -647,7 +740,7 @@ expected x = x .1
 -- the whole table, by one computation
 pub examples-right : map listed table ≡ map expected table
 unfolding listing enough moves moveFrom moveBy splitBy pathOf begin
-    endBy endAt needs writes points addressPoints operandPoints operationPoints powerBelow anyPower first
+    endBy endAt needs writes points addressPoints operandPoints operationPoints first
     from width values choices flatMap size best least greatest every same low high fixed keep classes hull piece pieces
     classOf classBy sortingOf sortOf comparison after run stepDecoded fetch step readNext operate start decodeOf search rows signed widen
 examples-right = refl
@@ -655,7 +748,7 @@ examples-right = refl
 
 // ---------------------------------------------------------------------------------------------
 
-/// Every kind that occurs, no other, and every reason is the end of some path.
+/// Every kind and every reason that occurs, and no other, is the end of some path.
 fn assert_covered(tables: &[Table]) {
     let examples = tables.iter().flat_map(|table| &table.examples);
     let paths: Vec<Path> = examples.flat_map(|example| oracle::listing(&example.job)).collect();
@@ -664,7 +757,8 @@ fn assert_covered(tables: &[Table]) {
         assert!(found == kind_occurs(kind), "paths of kind {}: {}", kind, found);
     }
     for reason in 1..=REASONS {
-        assert!(paths.iter().any(|path| path.reason == reason), "no path of reason {}", reason);
+        let found = paths.iter().any(|path| path.reason == reason);
+        assert!(found == reason_occurs(reason), "paths of reason {}: {}", reason, found);
     }
 }
 

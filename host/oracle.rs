@@ -1,4 +1,4 @@
-//! A brute-force oracle for the interval path explorer, after document 01 and Nos. 1 to 3 of
+//! A brute-force oracle for the interval path explorer, after document 01 and Nos. 1 to 5 of
 //! document 02.
 //!
 //! A group holds every choice of its box, each with a plain machine of its own; a value is fixed if
@@ -32,10 +32,8 @@ pub const STEP_LIMIT: u64 = 7;
 pub const NOT_FOLLOWED: u64 = 8;
 pub const TRACE_FULL: u64 = 9;
 
-// Reasons of kind 8.
+// Reasons of kind 8; since No. 5 of document 02 no path has reason 2 or 3.
 pub const BOTH_OPEN: u64 = 1;
-pub const MULTIPLIER: u64 = 2;
-pub const DIVISOR: u64 = 3;
 pub const DIVISOR_OPEN: u64 = 4;
 pub const QUOTIENTS: u64 = 5;
 pub const BASE_OPEN: u64 = 6;
@@ -544,33 +542,26 @@ fn division_end(group: &Group, operation: Operation, rs1: usize, rs2: usize) -> 
     if group.is_open(rs2) {
         return Some((NOT_FOLLOWED, DIVISOR_OPEN));
     }
-    let divisor = group.value(rs2);
-    // No. 3 of document 02: a division by 0 goes on, and the dividend may be open
-    if divisor == 0 || group.is_fixed(rs1) {
-        return None;
-    }
-    let (low, high) = group.register(rs1);
-    match operation {
-        Operation::Divu if !divisor.is_power_of_two() => Some((NOT_FOLLOWED, DIVISOR)),
-        Operation::Remu if high / divisor - low / divisor > 1 => Some((NOT_FOLLOWED, QUOTIENTS)),
-        _ => None,
-    }
+    quotients_end(group, operation, rs1, rs2)
 }
 
 fn multiplication_end(group: &Group, rs1: usize, rs2: usize) -> Option<End> {
-    let (open, fixed) = match (group.is_open(rs1), group.is_open(rs2)) {
-        (true, true) => return Some((NOT_FOLLOWED, BOTH_OPEN)),
-        (false, false) => return None,
-        (true, false) => (rs1, rs2),
-        (false, true) => (rs2, rs1),
-    };
-    let multiplier = group.value(fixed);
-    if multiplier != 0 && !multiplier.is_power_of_two() {
-        return Some((NOT_FOLLOWED, MULTIPLIER));
-    }
-    let (low, high) = group.register(open);
-    let apart = high_half(high, multiplier) - high_half(low, multiplier);
-    (apart > 1).then_some((NOT_FOLLOWED, QUOTIENTS))
+    both_open(group, rs1, rs2).or_else(|| {
+        let (value, factor) = if group.is_fixed(rs2) { (rs1, rs2) } else { (rs2, rs1) };
+        quotients_end(group, Operation::Mul, value, factor)
+    })
+}
+
+/// Reason 5, by a fixed number; DIVU, which sorts by nothing, never has it.
+fn quotients_end(group: &Group, operation: Operation, value: usize, by: usize) -> Option<End> {
+    (quotients_apart(group, operation, value, by) > 1).then_some((NOT_FOLLOWED, QUOTIENTS))
+}
+
+/// How far apart the fork rule's quotients are at the value's low and high.
+fn quotients_apart(group: &Group, operation: Operation, value: usize, by: usize) -> u64 {
+    let (low, high) = group.register(value);
+    let quotient = |value| operation_class(operation, value, group.value(by));
+    quotient(high) - quotient(low)
 }
 
 /// The product div 2^64.
@@ -602,6 +593,7 @@ fn operation_class(operation: Operation, a: u64, b: u64) -> u64 {
         Operation::Add => a.overflowing_add(b).1 as u64,
         Operation::Sub => a.overflowing_sub(b).1 as u64,
         Operation::Mul => high_half(a, b),
+        // No. 5 of document 02: no fork by any divisor
         Operation::Divu => 0,
         // No. 3 of document 02: by 0 there is no quotient, and no fork
         Operation::Remu => a.checked_div(b).unwrap_or(0),
@@ -707,7 +699,7 @@ pub fn listing_and_met(job: &Job) -> (Vec<Path>, BTreeSet<Met>) {
 }
 
 /// What random jobs must come to; the first are the operations in their order.
-pub const TO_MEET: [&str; 9] = [
+pub const TO_MEET: [&str; 13] = [
     "ADD twice",
     "SUB twice",
     "MUL twice",
@@ -717,12 +709,25 @@ pub const TO_MEET: [&str; 9] = [
     "BEQ twice",
     "DIVU by zero",
     "REMU by zero",
+    // No. 5 of document 02: by a fixed number that is neither 0 nor a power of two
+    "MUL by another",
+    "DIVU by another",
+    "MUL by another with two quotients",
+    "MUL by another with more",
 ];
 const BEQ_TWICE: usize = 6;
 const DIVU_BY_ZERO: usize = 7;
 const REMU_BY_ZERO: usize = 8;
+const MUL_BY_ANOTHER: usize = 9;
+const DIVU_BY_ANOTHER: usize = 10;
+const TWO_QUOTIENTS: usize = 11;
+const MORE_QUOTIENTS: usize = 12;
 
-/// One of them, by its place there, and whether the first operand was open.
+/// So many of them, the first, are met with a fixed operand too; a fixed product has one quotient.
+pub const TO_MEET_FIXED: usize = TWO_QUOTIENTS;
+
+/// One of them, by its place there, and whether the operand was open: the one that is multiplied or
+/// divided, and the first of a comparison.
 #[derive(Clone, Copy, Debug, PartialEq, Eq, PartialOrd, Ord)]
 pub struct Met {
     pub place: usize,
@@ -731,22 +736,41 @@ pub struct Met {
 
 /// None into register 0, where nothing is asked of the operands.
 fn meets(group: &Group, instruction: Instruction) -> Vec<Met> {
-    let (twice, by_zero, rs1, rs2) = match instruction {
-        Instruction::Beq { rs1, rs2, .. } => (BEQ_TWICE, None, rs1, rs2),
+    let twice = |place, register| Met { place, open: group.is_open(register) };
+    match instruction {
+        Instruction::Beq { rs1, rs2, .. } if rs1 == rs2 => vec![twice(BEQ_TWICE, rs1)],
         Instruction::Register { operation, rd, rs1, rs2 } if rd != 0 => {
-            let by_zero = match operation {
-                Operation::Divu => Some(DIVU_BY_ZERO),
-                Operation::Remu => Some(REMU_BY_ZERO),
-                _ => None,
-            };
-            (operation as usize, by_zero, rs1, rs2)
+            let mut met = meets_by(group, operation, rs1, rs2);
+            if operation == Operation::Mul {
+                met.extend(meets_by(group, operation, rs2, rs1));
+            }
+            met.extend((rs1 == rs2).then(|| twice(operation as usize, rs1)));
+            met
         }
-        _ => return Vec::new(),
+        _ => Vec::new(),
+    }
+}
+
+/// What a value meets with the number that it is multiplied or divided by, where that is fixed.
+fn meets_by(group: &Group, operation: Operation, value: usize, by: usize) -> Vec<Met> {
+    if group.is_open(by) {
+        return Vec::new();
+    }
+    let number = group.value(by);
+    let another = number != 0 && !number.is_power_of_two();
+    let places: &[usize] = match operation {
+        Operation::Divu if number == 0 => &[DIVU_BY_ZERO],
+        Operation::Remu if number == 0 => &[REMU_BY_ZERO],
+        Operation::Divu if another => &[DIVU_BY_ANOTHER],
+        Operation::Mul if another => match quotients_apart(group, operation, value, by) {
+            0 => &[MUL_BY_ANOTHER],
+            1 => &[MUL_BY_ANOTHER, TWO_QUOTIENTS],
+            _ => &[MUL_BY_ANOTHER, MORE_QUOTIENTS],
+        },
+        _ => &[],
     };
-    let twice = (rs1 == rs2).then_some(twice);
-    let by_zero = by_zero.filter(|_| group.register(rs2) == (0, 0));
-    let places = twice.into_iter().chain(by_zero);
-    places.map(|place| Met { place, open: group.is_open(rs1) }).collect()
+    let open = group.is_open(value);
+    places.iter().map(|&place| Met { place, open }).collect()
 }
 
 // ---------------------------------------------------------------------------------------------

@@ -1,5 +1,5 @@
-//! Tests of the oracle itself: document 01's rules on trial, Nos. 1 to 3 of document 02, and random
-//! jobs against runs of its plain machine.
+//! Tests of the oracle itself: document 01's rules on trial, Nos. 1, 2, 3 and 5 of document 02, and
+//! random jobs against runs of its plain machine.
 
 mod listing_check;
 mod oracle;
@@ -9,7 +9,7 @@ mod programs;
 use formats::assembler::*;
 use formats::blocks::to_bytes;
 use formats::limits::{path_bytes, ENTRY_WORDS, MEMORY_WORDS, PAYLOAD_WORDS, USUAL_TABLE_WORDS};
-use formats::numbers::{kind_occurs, KINDS, REASONS};
+use formats::numbers::{kind_occurs, reason_occurs, KINDS, REASONS};
 use formats::random::Random;
 use formats::report;
 use oracle::*;
@@ -19,6 +19,8 @@ const MEMORY: [u64; MEMORY_WORDS] = [0; MEMORY_WORDS];
 const RECORD: usize = path_bytes(1);
 const ENTRIES: u64 = (USUAL_TABLE_WORDS / ENTRY_WORDS) as u64;
 const MAX: u64 = u64::MAX;
+/// The highest value whose product by 60 is below 2^64.
+const SIXTIETH: u64 = MAX / 60;
 
 fn job(code: &[u32], low: u64, high: u64, limit: u64) -> Job {
     let (code, intervals) = (code.to_vec(), vec![(low, high)]);
@@ -36,9 +38,19 @@ fn lines(job: &Job) -> Vec<(u64, u64, u64, u64, Interval, Interval)> {
 
 /// The box and the exit value of each path; all of them exit.
 fn exits(work: &[u32], low: u64, high: u64) -> Vec<(Interval, Interval)> {
-    let lines = lines(&job(&reads(work), low, high, 100));
-    assert!(lines.iter().all(|line| line.0 == EXITED));
+    exits_of(&job(&reads(work), low, high, 100))
+}
+
+fn exits_of(job: &Job) -> Vec<(Interval, Interval)> {
+    let lines = lines(job);
+    assert!(lines.iter().all(|line| line.0 == EXITED), "{lines:?}");
     lines.into_iter().map(|line| (line.4, line.5)).collect()
+}
+
+/// A job that loads a number of any size into register 6 before its work.
+fn job_with(number: u64, work: &[u32], low: u64, high: u64) -> Job {
+    let code = reads(&[&[ld(6, 8, 0)], work].concat());
+    Job { memory: vec![0, number], ..job(&code, low, high, 100) }
 }
 
 #[test]
@@ -252,6 +264,7 @@ fn a_quotient_by_0_is_fixed() {
         [((0, 0), (MAX, MAX)), ((1, 3), (0, 2))]
     );
     assert_eq!(exits(&[divu(6, 5, 0), remu(10, 5, 6)], 3, 6), [((3, 6), (3, 6))]);
+    assert_eq!(exits(&[divu(6, 5, 0), divu(10, 5, 6)], 3, 6), [((3, 6), (0, 0))]);
     // a base: MAX + 1 is address 0, where the input is
     assert_eq!(exits(&[divu(6, 5, 0), ld(10, 1, 6)], 3, 6), [((3, 6), (3, 6))]);
     let base = job(&reads(&[divu(6, 5, 0), ld(10, 0, 6)]), 3, 6, 100);
@@ -262,8 +275,7 @@ fn a_quotient_by_0_is_fixed() {
 fn reasons_after_a_division_by_0() {
     let words = [
         ([remu(6, 5, 0), add(10, 5, 6)], BOTH_OPEN),
-        ([divu(6, 5, 0), mul(10, 5, 6)], MULTIPLIER),
-        ([divu(6, 5, 0), divu(10, 5, 6)], DIVISOR),
+        ([divu(6, 5, 0), mul(10, 5, 6)], QUOTIENTS),
         ([remu(6, 5, 0), divu(10, 5, 6)], DIVISOR_OPEN),
         ([remu(6, 5, 0), ld(10, 0, 6)], BASE_OPEN),
     ];
@@ -322,6 +334,239 @@ fn a_plain_run_divides_by_0() {
     }
 }
 
+#[test]
+fn products_by_60() {
+    for product in [mul(10, 5, 6), mul(10, 6, 5)] {
+        let work = [addi(6, 0, 60), product];
+        assert_eq!(exits(&work, 3, 6), [((3, 6), (180, 360))]);
+        let wraps = exits(&work, SIXTIETH - 3, SIXTIETH + 4);
+        let below = (SIXTIETH - 3, SIXTIETH);
+        let above = (SIXTIETH + 1, SIXTIETH + 4);
+        assert_eq!(wraps, [(below, (MAX - 195, MAX - 15)), (above, (44, 224))]);
+        // all of them in one piece, and fixed ones
+        assert_eq!(exits(&work, above.0, above.1), [(above, (44, 224))]);
+        assert_eq!(exits(&work, above.0, above.0), [((above.0, above.0), (44, 44))]);
+    }
+    // the highest values have the quotient 59 alone
+    assert_eq!(
+        exits(&[addi(6, 0, 60), mul(10, 5, 6)], MAX - 2, MAX),
+        [((MAX - 2, MAX), (MAX - 179, MAX - 59))]
+    );
+}
+
+#[test]
+fn products_with_two_quotients_and_with_three() {
+    // v * 2^56 * 60 div 2^64 is v * 60 div 256: 1 from 5 on and 2 from 9 on
+    let two_steps = [addi(7, 0, 60), mul(28, 5, 6), mul(10, 28, 7)];
+    let at_once = [mul(10, 6, 5)];
+    let jobs = |high| {
+        let steps = job_with(1 << 56, &two_steps, 0, high);
+        [(steps, 28, 7), (job_with(60 << 56, &at_once, 0, high), 20, 5)]
+    };
+    for (job, ..) in jobs(8) {
+        let ends = [((0, 4), (0, 240 << 56)), ((5, 8), (44 << 56, 224 << 56))];
+        assert_eq!(exits_of(&job), ends);
+    }
+    for (job, pc, steps) in jobs(9) {
+        assert_eq!(lines(&job), [(NOT_FOLLOWED, QUOTIENTS, pc, steps, (0, 9), (8, 8))]);
+    }
+}
+
+#[test]
+fn quotients_by_60() {
+    let by_60 = [addi(6, 0, 60), divu(7, 5, 6)];
+    let then = |work: &[u32], low, high| exits(&[&by_60, work].concat(), low, high);
+    assert_eq!(then(&[addi(10, 7, 0)], 595, 604), [((595, 604), (9, 10))]);
+    assert_eq!(then(&[addi(10, 7, 0)], 0, 999), [((0, 999), (0, 16))]);
+    assert_eq!(then(&[addi(10, 7, 0)], 605, 605), [((605, 605), (10, 10))]);
+    // the edges are multiples of 60
+    let less = [addi(6, 0, 10), sltu(10, 7, 6)];
+    assert_eq!(then(&less, 595, 604), [((595, 599), (1, 1)), ((600, 604), (0, 0))]);
+    let equal = [addi(6, 0, 10), beq(7, 6, 8), addi(10, 7, 0)];
+    let pieces = [((530, 599), (8, 9)), ((600, 659), (8, 8)), ((660, 665), (11, 11))];
+    assert_eq!(then(&equal, 530, 665), pieces);
+    // the sum with -10 wraps below 600
+    assert_eq!(
+        then(&[addi(10, 7, -10)], 595, 604),
+        [((595, 599), (MAX, MAX)), ((600, 604), (0, 0))]
+    );
+}
+
+#[test]
+fn quotients_times_60() {
+    let rounded = [addi(6, 0, 60), divu(7, 5, 6), mul(7, 7, 6)];
+    let then = |work: &[u32], low, high| job(&reads(&[&rounded, work].concat()), low, high, 100);
+    assert_eq!(exits_of(&then(&[addi(10, 7, 0)], 595, 604)), [((595, 604), (540, 600))]);
+    // both vary
+    let rest = then(&[sub(10, 5, 7)], 595, 604);
+    assert_eq!(lines(&rest), [(NOT_FOLLOWED, BOTH_OPEN, 28, 7, (595, 604), (8, 8))]);
+    // one quotient is fixed, and its multiple too
+    assert_eq!(exits_of(&then(&[sub(10, 5, 7)], 600, 659)), [((600, 659), (0, 59))]);
+    let work = [addi(6, 0, 60), remu(10, 5, 6)];
+    assert_eq!(exits(&work, 595, 604), [((595, 599), (55, 59)), ((600, 604), (0, 4))]);
+    // a product that wraps, divided again
+    let back = [addi(6, 0, 60), mul(7, 5, 6), divu(10, 7, 6)];
+    let (below, above) = ((SIXTIETH - 2, SIXTIETH), (SIXTIETH + 1, SIXTIETH + 3));
+    assert_eq!(exits(&back, below.0, above.1), [(below, below), (above, (0, 2))]);
+}
+
+#[test]
+fn by_the_highest_number() {
+    let product = |low, high| job_with(MAX, &[mul(10, 5, 6)], low, high);
+    // v * MAX is (v - 1) * 2^64 + 2^64 - v
+    let pieces = [((0, 1), (0, MAX)), ((2, 2), (MAX - 1, MAX - 1))];
+    assert_eq!(exits_of(&product(0, 2)), pieces);
+    let each = [((4, 4), (MAX - 3, MAX - 3)), ((5, 5), (MAX - 4, MAX - 4))];
+    assert_eq!(exits_of(&product(4, 5)), each);
+    let more = [(NOT_FOLLOWED, QUOTIENTS, 20, 5, (0, 3), (8, 8))];
+    assert_eq!(lines(&product(0, 3)), more);
+    // 0 - v times MAX is v
+    let falling = job_with(MAX, &[sub(7, 0, 5), mul(10, 7, 6)], 1, 2);
+    assert_eq!(exits_of(&falling), [((1, 1), (1, 1)), ((2, 2), (2, 2))]);
+    let quotient = job_with(MAX, &[divu(10, 5, 6)], MAX - 2, MAX);
+    assert_eq!(exits_of(&quotient), [((MAX - 2, MAX), (0, 1))]);
+    let less = job_with(MAX, &[divu(7, 5, 6), sltu(10, 0, 7)], MAX - 2, MAX);
+    assert_eq!(exits_of(&less), [((MAX - 2, MAX - 1), (0, 0)), ((MAX, MAX), (1, 1))]);
+}
+
+#[test]
+fn by_1() {
+    for work in [[addi(6, 0, 1), mul(10, 5, 6)], [addi(6, 0, 1), divu(10, 5, 6)]] {
+        for whole in [(3, 6), (MAX - 9, MAX)] {
+            assert_eq!(exits(&work, whole.0, whole.1), [(whole, whole)]);
+        }
+    }
+}
+
+#[test]
+fn quotients_and_remainders_in_turn() {
+    let (three, seven) = (addi(6, 0, 3), addi(7, 0, 7));
+    // v / 3 passes 7 at 21
+    let first = [three, seven, divu(28, 5, 6), remu(10, 28, 7)];
+    assert_eq!(exits(&first, 17, 24), [((17, 20), (5, 6)), ((21, 24), (0, 1))]);
+    // v mod 7 begins again at 21
+    let second = [three, seven, remu(28, 5, 7), divu(10, 28, 6)];
+    assert_eq!(exits(&second, 17, 24), [((17, 20), (1, 2)), ((21, 24), (0, 1))]);
+    // v * 3 passes 7 at 3, and 14 at 5
+    let third = [three, seven, mul(28, 5, 6), remu(10, 28, 7)];
+    assert_eq!(exits(&third, 1, 4), [((1, 2), (3, 6)), ((3, 4), (2, 5))]);
+    let more = [(NOT_FOLLOWED, QUOTIENTS, 28, 7, (1, 5), (8, 8))];
+    assert_eq!(lines(&job(&reads(&third), 1, 5, 100)), more);
+}
+
+#[test]
+fn falling_values_by_60() {
+    // SIXTIETH + 3 - v wraps for the low v
+    let product = job_with(SIXTIETH + 3, &[sub(7, 6, 5), addi(6, 0, 60), mul(10, 7, 6)], 0, 5);
+    assert_eq!(exits_of(&product), [((0, 2), (44, 164)), ((3, 5), (MAX - 135, MAX - 15))]);
+    // 620 - v is below 600 from 21 on
+    let quotient = [addi(6, 0, 620), sub(7, 6, 5), addi(6, 0, 60), divu(7, 7, 6)];
+    let less = [&quotient[..], &[addi(6, 0, 10), sltu(10, 7, 6)]].concat();
+    assert_eq!(exits(&less, 18, 23), [((18, 20), (0, 0)), ((21, 23), (1, 1))]);
+}
+
+#[test]
+fn a_cut_narrows_products_and_quotients() {
+    let work = |word| [addi(6, 0, 60), word, addi(6, 0, 600), sltu(28, 5, 6), addi(10, 7, 0)];
+    let (below, above) = ((595, 599), (600, 604));
+    assert_eq!(
+        exits(&work(mul(7, 5, 6)), 595, 604),
+        [(below, (35700, 35940)), (above, (36000, 36240))]
+    );
+    assert_eq!(exits(&work(divu(7, 5, 6)), 595, 604), [(below, (9, 9)), (above, (10, 10))]);
+    // the quotient is fixed after the cut, and can be added to its input
+    let added = [&work(divu(7, 5, 6))[..], &[add(10, 7, 5)]].concat();
+    assert_eq!(exits(&added, 595, 604), [(below, (604, 608)), (above, (610, 614))]);
+    // a cut of the quotient narrows the input and the product
+    let back = [addi(6, 0, 60), divu(7, 5, 6), mul(28, 5, 6), addi(6, 0, 10), beq(7, 6, 4)];
+    let product = [&back[..], &[addi(10, 28, 0)]].concat();
+    assert_eq!(exits(&product, 595, 604), [(below, (35700, 35940)), (above, (36000, 36240))]);
+}
+
+#[test]
+fn a_product_of_one_input_and_a_quotient_of_the_other() {
+    let second = [addi(10, 0, 0), addi(11, 0, 8), ecall(), ld(7, 8, 0)];
+    // v * 3 < 13, and w / 3 < 2
+    let compared = [mul(28, 5, 6), addi(29, 0, 13), sltu(29, 28, 29)];
+    let other = [divu(30, 7, 6), addi(31, 0, 2), sltu(10, 30, 31)];
+    let code = reads(&[&second[..], &[addi(6, 0, 3)], &compared, &other].concat());
+    let paths = listing(&Job { intervals: vec![(3, 6), (4, 7)], ..job(&code, 0, 0, 100) });
+    let boxes: Vec<_> = paths.iter().map(|path| (path.boxes[0], path.boxes[1])).collect();
+    let each = [((3, 4), (4, 5)), ((3, 4), (6, 7)), ((5, 6), (4, 5)), ((5, 6), (6, 7))];
+    assert_eq!(boxes, each);
+}
+
+#[test]
+fn entries_by_60() {
+    let ends = |word, entries| {
+        let code = reads(&[addi(6, 0, 60), word]);
+        lines(&Job { entries, ..job(&code, SIXTIETH, SIXTIETH + 1, 100) })
+    };
+    let whole = (SIXTIETH, SIXTIETH + 1);
+    // the opening and the factor have taken 6; a fork takes one more than the write
+    assert_eq!(ends(mul(10, 5, 6), 7), [(TRACE_FULL, 0, 20, 5, whole, (8, 8))]);
+    let (below, above) = ((whole.0, whole.0), (whole.1, whole.1));
+    let pieces = [
+        (TRACE_FULL, 0, 24, 6, below, (MAX - 15, MAX - 15)),
+        (TRACE_FULL, 0, 24, 6, above, (44, 44)),
+    ];
+    assert_eq!(ends(mul(10, 5, 6), 8), pieces);
+    assert_eq!(ends(divu(10, 5, 6), 6), [(TRACE_FULL, 0, 20, 5, whole, (8, 8))]);
+    let quotient = SIXTIETH / 60;
+    assert_eq!(ends(divu(10, 5, 6), 7), [(TRACE_FULL, 0, 24, 6, whole, (quotient, quotient))]);
+    // one piece takes no more than the write
+    let one_piece = job(&reads(&[addi(6, 0, 60), mul(10, 5, 6)]), 3, 6, 100);
+    let expected = [(TRACE_FULL, 0, 24, 6, (3, 6), (180, 360))];
+    assert_eq!(lines(&Job { entries: 7, ..one_piece }), expected);
+    // into register 0 there is no fork and no entry
+    for word in [mul(0, 5, 6), divu(0, 5, 6)] {
+        assert_eq!(ends(word, 6), [(TRACE_FULL, 0, 24, 6, whole, (8, 8))]);
+    }
+}
+
+/// Of all sizes: small ones, powers of two and their neighbours, and the highest.
+fn numbers() -> Vec<u64> {
+    let small = 0..=100;
+    let powers =
+        (7..64).flat_map(|exponent| [(1 << exponent) - 1, 1 << exponent, (1 << exponent) + 1]);
+    small
+        .chain(powers)
+        .chain([1000, 3600, 86400, SIXTIETH, MAX / 7, MAX / 3, MAX - 1, MAX])
+        .collect()
+}
+
+#[test]
+fn any_divisor_is_followed_without_a_fork() {
+    for divisor in numbers() {
+        for (low, high) in [(0, 9), (595, 604), (SIXTIETH - 5, SIXTIETH + 5), (MAX - 9, MAX)] {
+            let quotient = |value: u64| if divisor == 0 { MAX } else { value / divisor };
+            let paths = exits_of(&job_with(divisor, &[divu(10, 5, 6)], low, high));
+            assert_eq!(paths, [((low, high), (quotient(low), quotient(high)))]);
+        }
+    }
+}
+
+#[test]
+fn any_factor_is_followed_over_two_quotients() {
+    for factor in numbers() {
+        // the first value whose product passes 2^64, or any
+        let passes = (1_u128 << 64).div_ceil(factor.max(2) as u128) as u64;
+        for (low, high) in [(passes - 2, passes - 1), (passes - 1, passes + 1), (595, 604)] {
+            let job = job_with(factor, &[mul(10, 5, 6)], low, high);
+            let quotients: BTreeSet<u128> =
+                (low..=high).map(|value| value as u128 * factor as u128 >> 64).collect();
+            let apart = quotients.last().unwrap() - quotients.first().unwrap();
+            let lines = lines(&job);
+            if apart > 1 {
+                assert_eq!(lines, [(NOT_FOLLOWED, QUOTIENTS, 20, 5, (low, high), (8, 8))]);
+            } else {
+                assert!(lines.iter().all(|line| line.0 == EXITED));
+                assert_eq!(lines.len(), quotients.len());
+            }
+        }
+    }
+}
+
 /// The names of what the work on this box meets, and whether the first operand was open.
 fn met(work: &[u32], low: u64, high: u64, limit: u64) -> Vec<(&'static str, bool)> {
     let (_, met) = listing_and_met(&job(&reads(work), low, high, limit));
@@ -332,7 +577,12 @@ fn met(work: &[u32], low: u64, high: u64, limit: u64) -> Vec<(&'static str, bool
 fn registers_named_twice_are_met_open_or_fixed() {
     // BEQ cuts 3..6 at 5; ADD into register 0 does not count
     let work = [add(0, 5, 5), sltu(7, 5, 5), addi(6, 0, 5), beq(5, 6, 4), mul(10, 5, 5)];
-    let expected = [("MUL twice", false), ("MUL twice", true), ("SLTU twice", true)];
+    let expected = [
+        ("MUL twice", false),
+        ("MUL twice", true),
+        ("SLTU twice", true),
+        ("MUL by another", false),
+    ];
     assert_eq!(met(&work, 3, 6, 100), expected);
     assert_eq!(met(&[beq(5, 5, 4)], 3, 6, 100), [("BEQ twice", true)]);
     // the limit comes before the instruction
@@ -354,6 +604,27 @@ fn divisions_by_0_are_met_open_or_fixed() {
     assert!(met(&[divu(0, 5, 0), remu(6, 2, 5)], 0, 3, 100).is_empty());
     assert!(met(&[addi(6, 0, 1), divu(7, 5, 6)], 0, 3, 100).is_empty());
     assert!(met(&[divu(6, 5, 0)], 3, 6, 4).is_empty());
+}
+
+#[test]
+fn other_factors_and_divisors_are_met() {
+    let by_60 = |word: u32, low, high| met(&[addi(6, 0, 60), word], low, high, 100);
+    for product in [mul(10, 5, 6), mul(10, 6, 5)] {
+        assert_eq!(by_60(product, 3, 6), [("MUL by another", true)]);
+        assert_eq!(by_60(product, 5, 5), [("MUL by another", false)]);
+        let two = [("MUL by another", true), ("MUL by another with two quotients", true)];
+        assert_eq!(by_60(product, SIXTIETH, SIXTIETH + 1), two);
+    }
+    let more =
+        [("DIVU by zero", true), ("MUL by another", true), ("MUL by another with more", true)];
+    assert_eq!(met(&[divu(6, 5, 0), mul(10, 5, 6)], 0, 3, 100), more);
+    assert_eq!(by_60(divu(10, 5, 6), 3, 6), [("DIVU by another", true)]);
+    assert_eq!(by_60(divu(10, 2, 6), 3, 6), [("DIVU by another", false)]);
+    // into register 0, as dividend, by REMU, by 0, by 1 and by 64
+    assert!(by_60(mul(0, 5, 6), 3, 6).is_empty() && by_60(divu(10, 6, 5), 3, 6).is_empty());
+    assert!(by_60(remu(10, 5, 6), 3, 6).is_empty() && by_60(mul(10, 5, 0), 3, 6).is_empty());
+    let powers = [addi(6, 0, 1), mul(7, 5, 6), addi(6, 0, 64), mul(7, 5, 6), divu(7, 5, 6)];
+    assert!(met(&powers, 3, 6, 100).is_empty());
 }
 
 #[test]
@@ -417,8 +688,8 @@ fn random_job(random: &mut Random) -> Job {
     Job {
         code: programs::program(random, inputs),
         memory: programs::memory_for(random, &intervals),
-        limit: 1 + random.below(60) as u64,
-        entries: 1 + random.below(60) as u64,
+        limit: 1 + random.below(90) as u64,
+        entries: 1 + random.below(90) as u64,
         intervals,
     }
 }
@@ -439,10 +710,11 @@ fn plain_runs_agree_with_their_paths() {
         }
     }
     let kinds = (1..=KINDS).filter(|&kind| kind_occurs(kind)).count();
+    let reasons = (1..=REASONS).filter(|&reason| reason_occurs(reason)).count();
     // one kind has the reasons
-    assert_eq!(ends.len(), kinds - 1 + REASONS as usize, "{ends:?}");
+    assert_eq!(ends.len(), kinds - 1 + reasons, "{ends:?}");
     // open, and fixed
-    assert_eq!(all_met.len(), 2 * TO_MEET.len(), "{all_met:?}");
+    assert_eq!(all_met.len(), TO_MEET.len() + TO_MEET_FIXED, "{all_met:?}");
 }
 
 #[test]

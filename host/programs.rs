@@ -18,7 +18,10 @@ pub fn small_box(random: &mut Random, inputs: usize, mut budget: usize) -> Vec<I
     for _ in 0..inputs {
         let width = 1 + random.below(budget.min(60));
         budget /= width;
-        let anchor = random.pick(&[0, 0, 3, 100, 1 << 32, (1 << 63) - 4, u64::MAX - 70]);
+        // near 3600 the quotients by 60 and by 3600 change, near MAX / 60 the products by 60 wrap
+        let small = random.pick(&[0, 0, 3, 100, 3590]);
+        let large = random.pick(&[1 << 32, u64::MAX / 60 - 20, (1 << 63) - 4, u64::MAX - 70]);
+        let anchor = random.pick(&[small, small, large]);
         let low = anchor + random.below(10) as u64;
         intervals.push((low, low + width as u64 - 1));
     }
@@ -52,7 +55,9 @@ const WIDE: u32 = 19;
 const SMALL_POWER: u32 = 20;
 const POWER: u32 = 21;
 const WILD: u32 = 22;
-const CONSTANTS: [u32; 5] = [NEAR, WIDE, SMALL_POWER, POWER, WILD];
+const FACTOR: u32 = 23;
+const WRAPPING: u32 = 24;
+const CONSTANTS: [u32; 7] = [NEAR, WIDE, SMALL_POWER, POWER, WILD, FACTOR, WRAPPING];
 const FIRST_CONSTANT: usize = 32;
 pub const CONSTANT_WORDS: std::ops::Range<usize> = FIRST_CONSTANT..FIRST_CONSTANT + CONSTANTS.len();
 
@@ -61,8 +66,32 @@ pub fn memory_for(random: &mut Random, intervals: &[Interval]) -> Vec<u64> {
     let (near, wide) = (near_value(random, intervals), near_value(random, intervals));
     let (small, power) = (1 << random.below(4), 1 << random.below(64));
     let wild = random.pick(&[0, 1, 3, 8, 63, 93, 1 << 63, u64::MAX]);
-    memory[CONSTANT_WORDS].copy_from_slice(&[near, wide, small, power, wild]);
+    let (factor, wrapping) = (any_factor(random), wrapping_factor(random, intervals));
+    let constants = [near, wide, small, power, wild, factor, wrapping];
+    memory[CONSTANT_WORDS].copy_from_slice(&constants);
     memory
+}
+
+/// A number of any size to multiply and divide by, small ones most often.
+fn any_factor(random: &mut Random) -> u64 {
+    let small = random.pick(&[3, 5, 7, 10, 12]);
+    let usual = random.pick(&[60, 60, 100, 1000, 3600]);
+    let any = random.next() >> random.below(64);
+    let highest = u64::MAX - random.below(5) as u64;
+    random.pick(&[small, small, small, usual, usual, any, highest])
+}
+
+/// By this number the product passes a multiple of 2^64 at some value of the box.
+fn wrapping_factor(random: &mut Random, intervals: &[Interval]) -> u64 {
+    if intervals.is_empty() {
+        return random.next();
+    }
+    let ends = random.pick(intervals);
+    let inside = random.between(ends);
+    // 2^64 - v passes a multiple where v does
+    let passing = inside.min(inside.wrapping_neg()).max(2) as u128;
+    let turns: u128 = random.pick(&[1, 1, 1, 1, 2, 3]);
+    (turns << 64).div_ceil(passing) as u64
 }
 
 fn near_value(random: &mut Random, intervals: &[Interval]) -> u64 {
@@ -71,17 +100,20 @@ fn near_value(random: &mut Random, intervals: &[Interval]) -> u64 {
     }
     let (low, high) = random.pick(intervals);
     let inside = random.between((low, high));
-    let values = [low, high, inside, inside, inside, high - low, inside.wrapping_neg()];
-    random.pick(&values).wrapping_add(random.pick(&[0, 0, 1, u64::MAX]))
+    let value = random.pick(&[low, high, high - low, inside.wrapping_neg()]);
+    let near = random.pick(&[value, value, inside, inside, inside]);
+    near.wrapping_add(random.pick(&[0, 0, 1, u64::MAX]))
 }
 
 // ---------------------------------------------------------------------------------------------
 // Programs.
 
-/// Registers for values that hang on inputs; 8 counts a loop's turns and 9 is a comparison's.
+/// Registers for values that hang on inputs; 8 counts a loop's turns, 9 is a comparison's, and 25
+/// holds a number to compare with.
 const VALUES: [u32; 8] = [5, 6, 7, 28, 29, 30, 31, 10];
 const COUNTER: u32 = 8;
 const TEST: u32 = 9;
+const LIMIT: u32 = 25;
 
 struct Writer<'a> {
     random: &'a mut Random,
@@ -100,9 +132,11 @@ pub fn program(random: &mut Random, inputs: usize) -> Vec<u32> {
     for _ in 0..writer.random.pick(&wanted) {
         writer.read();
     }
-    // right after the reads most dividends are open
-    if writer.random.once_in(5) {
-        writer.by_zero();
+    // right after the reads most values are open
+    match writer.random.below(10) {
+        0 | 1 => writer.by_zero(),
+        2..=7 => writer.scale(),
+        _ => {}
     }
     for _ in 0..2 + writer.random.below(12) {
         writer.snippet();
@@ -135,7 +169,7 @@ impl Writer<'_> {
     }
 
     fn snippet(&mut self) {
-        match self.random.below(49) {
+        match self.random.below(57) {
             0..=11 => self.operation(),
             12..=14 => self.immediate(),
             15..=20 => self.skip_unless_less(),
@@ -148,7 +182,8 @@ impl Writer<'_> {
             36 => self.wild_word(),
             37..=39 => self.oddity(),
             40..=42 => self.against_itself(),
-            _ => self.by_zero(),
+            43..=48 => self.by_zero(),
+            _ => self.scale(),
         }
     }
 
@@ -211,10 +246,51 @@ impl Writer<'_> {
         }
     }
 
+    /// MUL, DIVU or both by a number of any size; what they give is compared with what they give
+    /// for a number near the value, or used at once.
+    fn scale(&mut self) {
+        let (any, other) = (self.value(), self.value());
+        // the first input is open most often
+        let value = self.random.pick(&[any, VALUES[0]]);
+        let rd = self.random.pick(&[TEST, TEST, value, other, other, 10, 10, 10, 0]);
+        let factor = self.random.pick(&[FACTOR, WRAPPING, WRAPPING]);
+        let divisor = self.random.pick(&[FACTOR, FACTOR, NEAR]);
+        let way = self.random.below(7);
+        let scaled = |rd, value| match way {
+            0 => vec![mul(rd, value, factor)],
+            1 => vec![mul(rd, factor, value)],
+            2 | 3 => vec![divu(rd, value, divisor)],
+            4 => vec![divu(rd, value, divisor), mul(rd, rd, divisor)],
+            5 => vec![divu(rd, value, divisor), mul(rd, rd, WRAPPING)],
+            _ => vec![mul(rd, value, factor), divu(rd, rd, divisor)],
+        };
+        self.code.extend(scaled(rd, value));
+        if self.random.once_in(3) {
+            self.use_at_once(rd);
+        } else {
+            self.code.extend(scaled(LIMIT, NEAR));
+            self.compare(rd);
+        }
+    }
+
+    /// With the number in register 25, which is near it.
+    fn compare(&mut self, result: u32) {
+        let other = self.value();
+        let words: [&[u32]; 6] = [
+            &[sltu(TEST, result, LIMIT), beq(TEST, 0, 8)],
+            &[sltu(TEST, LIMIT, result), beq(TEST, 0, 8)],
+            &[beq(result, LIMIT, 8)],
+            &[beq(LIMIT, result, 12)],
+            &[sub(other, result, LIMIT)],
+            &[sub(other, LIMIT, result)],
+        ];
+        self.code.extend(self.random.pick(&words));
+    }
+
     fn use_at_once(&mut self, result: u32) {
         let (value, other) = (self.value(), self.value());
         let limit = self.random.pick(&[NEAR, NEAR, WIDE]);
-        let words: [&[u32]; 10] = [
+        let words: [&[u32]; 12] = [
             &[sltu(TEST, result, limit), beq(TEST, 0, 8)],
             &[sltu(TEST, value, result), beq(TEST, 0, 8)],
             &[beq(result, limit, 8)],
@@ -223,6 +299,8 @@ impl Writer<'_> {
             &[sub(other, limit, result)],
             &[sd(result, 64, 0), ld(other, 64, 0)],
             &[mul(other, result, SMALL_POWER)],
+            &[mul(other, FACTOR, result)],
+            &[divu(other, result, FACTOR)],
             &[remu(other, result, limit)],
             &[remu(other, value, result)],
         ];

@@ -71,8 +71,8 @@ enum mirokefa_kind {
 enum mirokefa_reason {
     MIROKEFA_BOTH_OPEN = 1,         /* both operands of ADD, SUB, MUL, SLTU or BEQ not fixed; SUB, SLTU and BEQ of one register
                                        twice are followed */
-    MIROKEFA_MULTIPLIER = 2,        /* MUL by a fixed number, neither 0 nor a power of two */
-    MIROKEFA_DIVISOR = 3,           /* DIVU by a fixed number that is neither 0 nor a power of two */
+    MIROKEFA_MULTIPLIER = 2,        /* no longer given: MUL by any fixed number is followed */
+    MIROKEFA_DIVISOR = 3,           /* no longer given: DIVU by any fixed number is followed */
     MIROKEFA_DIVISOR_OPEN = 4,      /* DIVU or REMU by a number that is not fixed */
     MIROKEFA_QUOTIENTS = 5,         /* MUL or REMU with quotients more than 1 apart */
     MIROKEFA_BASE_OPEN = 6,         /* base of LD, SD or JALR not fixed */

@@ -183,8 +183,8 @@ mod tests {
     #[test]
     fn ends_that_are_no_exit() {
         let unfollowed = assemble(include_str!("../jobs/unfollowed.s")).unwrap();
-        let reason = "not followed: the fixed multiplier is neither 0 nor a power of two";
-        assert_eq!(by_job(&unfollowed, "7"), format!("row 1 (7): path 0, {reason}\n"));
+        let line = "row 1 (7, 9): path 0, not followed: both operands vary\n";
+        assert_eq!(by_job(&unfollowed, "7 9"), line);
         let short = Job { limit: 5, ..job_a() };
         assert_eq!(by_job(&short, "7"), "row 1 (7): path 0, the step limit is reached\n");
     }

@@ -13,6 +13,11 @@ pub fn kind_occurs(kind: u64) -> bool {
     kind != 2 && (1..=KINDS).contains(&kind)
 }
 
+/// Is it the reason of some path? No. 5 of document 02 leaves 2 and 3 unused.
+pub fn reason_occurs(reason: u64) -> bool {
+    reason != 2 && reason != 3 && (1..=REASONS).contains(&reason)
+}
+
 /// What placing answers for a row that no path holds.
 pub const NO_PATH: u64 = u64::MAX;
 
@@ -54,8 +59,9 @@ pub fn kind_text(kind: u64) -> &'static str {
 pub fn reason_text(reason: u64) -> &'static str {
     match reason {
         1 => "both operands vary",
-        2 => "the fixed multiplier is neither 0 nor a power of two",
-        3 => "the fixed divisor of divu is neither 0 nor a power of two",
+        // a stored report may still have these two
+        2 => "the fixed multiplier is neither 0 nor a power of two (no longer given)",
+        3 => "the fixed divisor of divu is neither 0 nor a power of two (no longer given)",
         4 => "the divisor varies",
         5 => "the product or remainder wraps more than once over the interval",
         6 => "the base address of ld, sd or jalr varies",
@@ -106,5 +112,18 @@ mod tests {
     fn kind_2_does_not_occur() {
         let kinds: Vec<u64> = (0..=KINDS + 1).filter(|&kind| kind_occurs(kind)).collect();
         assert_eq!(kinds, [1, 3, 4, 5, 6, 7, 8, 9]);
+    }
+
+    #[test]
+    fn reasons_2_and_3_do_not_occur() {
+        let reasons: Vec<u64> = (0..=REASONS + 1).filter(|&reason| reason_occurs(reason)).collect();
+        assert_eq!(reasons, [1, 4, 5, 6, 7]);
+    }
+
+    #[test]
+    fn numbers_that_are_not_given_say_so() {
+        let says_so = |text: &str| text.ends_with("(no longer given)");
+        assert!((1..=KINDS).all(|kind| kind_occurs(kind) != says_so(kind_text(kind))));
+        assert!((1..=REASONS).all(|reason| reason_occurs(reason) != says_so(reason_text(reason))));
     }
 }

@@ -282,6 +282,8 @@ mod tests {
         assert_eq!(end(&[(1, 2)]), "division by zero (no longer given)");
         assert_eq!(end(&[(1, 7)]), "the step limit is reached");
         assert_eq!(end(&[(1, 8), (23, 4)]), "not followed: the divisor varies");
+        let unused = "the fixed multiplier is neither 0 nor a power of two (no longer given)";
+        assert_eq!(end(&[(1, 8), (23, 2)]), format!("not followed: {unused}"));
         assert_eq!(end(&[(1, 8), (23, 9)]), "not followed: no such reason");
     }
 

@@ -1,7 +1,7 @@
 -- A value over a box: its least and its greatest, and whether it is fixed. Where it hangs on one input, and only rises or only
 -- falls with it, the lowest and the highest choice say all three.
 -- Assumes nothing.
-use mathlib.Core.Path.{_≡_, refl, sym, _∙_}
+use mathlib.Core.Path.{_≡_, refl, sym, ap, _∙_}
 use mathlib.Core.Logic.{inl, inr, _↔_, _⊎_, ⊎-elim}
 use mathlib.Core.Bool.{true}
 use mathlib.Core.List.{map, Memᴰ·map, Memᴰ·of-map}
@@ -70,6 +70,19 @@ module _ (f : Choice → ℕ) (b : Box) (p : Proper b) where
   pub high-reached : (c : Choice) × Inside c b × (f c ≡ high f b)
   unfolding high
   high-reached = let (r, q) = choices-first b p in reached (high f b) (rw q (greatest-mem (f (lows b)) (map f r)))
+
+-- what rises with a value has its least where the value has its own, and its greatest there too
+module _ (f : Choice → ℕ) (m : ℕ → ℕ) (b : Box) (p : Proper b)
+    (rises : (c d : Choice) → Inside c b → Inside d b → f c ≤ f d → m (f c) ≤ m (f d)) where
+  pub low-carried : low (λ c. m (f c)) b ≡ m (low f b)
+  low-carried =
+      let (c, i, e) = low-reached f b p in
+      low-is (λ c. m (f c)) b c i (λ d n. rises c d i n (rw e (low-le f b d n))) ∙ ap m e
+
+  pub high-carried : high (λ c. m (f c)) b ≡ m (high f b)
+  high-carried =
+      let (c, i, e) = high-reached f b p in
+      high-is (λ c. m (f c)) b c i (λ d n. rises d c n i (rw e (le-high f b d n))) ∙ ap m e
 
 -- a value of one input, at the two corners
 

@@ -18,7 +18,7 @@ use Rattle.riscu.specs.declared.Operation.{Operation}
 use Rattle.riscu.specs.declared.Operation.the-variants.{Add, Sub, Mul, Divu, Remu, Sltu}
 use Rattle.riscu.specs.declared.Instruction.the-variants.{Register}
 use Rattle.listing.specs.Group.{Job, Group, after, View, viewOf, sortOf, sortingOf, classBy, classOf}
-use Rattle.listing.specs.Ending.{first, openAt, valueAt, neitherZeroNorPower, farApart, operationPoints, operandPoints, addressPoints, points}
+use Rattle.listing.specs.Ending.{first, openAt, valueAt, farApart, operationPoints, operandPoints, addressPoints, points}
 use Rattle.listing.specs.declared.Operand.the-variants.{InRegister}
 use Rattle.listing.specs.declared.Reason.the-variants.{DivisorOpen}
 use Rattle.listing.specs.declared.End.the-variants.{NotFollowed}
@@ -52,15 +52,6 @@ module _ (j : Job) (g : Group) (proper : Proper (g .box)) (r : ℕ)
   divisor-closed : openAt (viewOf j g) r ≡ false
   divisor-closed = ap not (constant-fixed (λ c. reg r (after j (g .steps) c)) (g .box) same-0)
 
-  divisor-0 : valueAt (viewOf j g) r ≡ 0
-  divisor-0 =
-      let m = lows-inside (g .box) proper in
-      lowest-at j g (reg r) same-0 (lows (g .box)) m ∙ zero (lows (g .box)) m
-
-  -- reason 3 asks for a divisor other than 0
-  no-reason-3 : (q : ℕ) → neitherZeroNorPower (viewOf j g) (InRegister r) (InRegister q) ≡ false
-  no-reason-3 q = by-test (openAt (viewOf j g) q) (λ o. rw (o, eq-eqb _ 0 divisor-0)) (λ o. rw o)
-
   -- reason 5 asks for two quotients
   no-reason-5 : (q : ℕ) → farApart (viewOf j g) Remu (InRegister q) (InRegister r) ≡ false
   no-reason-5 q =
@@ -77,7 +68,7 @@ module _ (j : Job) (g : Group) (proper : Proper (g .box)) (r : ℕ)
   unfolding operationPoints first
   division-passes =
       of-division (λ op. (q : ℕ) → first (operationPoints (viewOf j g) op (InRegister q) (InRegister r)) ≡ none)
-      (λ q. rw (divisor-closed, no-reason-3 q)) (λ q. rw (divisor-closed, no-reason-5 q))
+      (λ q. rw divisor-closed) (λ q. rw (divisor-closed, no-reason-5 q))
 
   pub passes-by-0 : (op : Operation) → IsDivision op → (rd q : ℕ) → first (points (viewOf j g) (Register op rd q r)) ≡ none
   unfolding points addressPoints operandPoints sortingOf first

@@ -11,12 +11,12 @@ use borrow.Author.Tests.{leb-true, ltb-true}
 use Rattle.boxes.specs.Boxes.{Box, Interval, _⋯_, Proper, highs, from, every, _∈_}
 use Rattle.boxes.specs.Cuts.{bisect, edge, cornerPieces}
 use Rattle.boxes.proofs.Lists.{map-eq}
-use Rattle.riscu.specs.Word.{size, signed, widen, powerBelow}
+use Rattle.riscu.specs.Word.{size, signed, widen}
 use Rattle.riscu.specs.Decode.{rows, search, decodeOf}
 use Rattle.riscu.specs.Machine.{start, operate, readNext, step, fetch, stepDecoded, run}
 use Rattle.riscu.proofs.Whole.{words-zero}
 use Rattle.listing.specs.Group.{Job, Group, after, sortOf, comparison, sortingOf, classBy, classOf}
-use Rattle.listing.specs.Ending.{first, anyPower, operationPoints, operandPoints, addressPoints, points}
+use Rattle.listing.specs.Ending.{first, operationPoints, operandPoints, addressPoints, points}
 use Rattle.listing.specs.Ending.{writes, needs, endAt, endBy}
 use Rattle.listing.specs.Listing.{Path, pathOf, splitBy, moveBy, moveFrom, moves, begin, listing}
 use Rattle.listing.specs.Numbers.{kindNumber, reasonWord}
@@ -194,7 +194,7 @@ table =
 -- the whole table, by one computation
 outcomes : map outcome table ≡ map wanted table
 unfolding every moves moveFrom moveBy splitBy pathOf from begin
-    endBy endAt needs writes points addressPoints operandPoints operationPoints powerBelow anyPower first
+    endBy endAt needs writes points addressPoints operandPoints operationPoints first
     cornerPieces edge bisect tagsAt tagDecoded tagStep classTag tagBy
     classOf classBy sortingOf sortOf comparison after run stepDecoded fetch step readNext operate start decodeOf search rows signed widen
 outcomes = refl

@@ -24,7 +24,7 @@ use Rattle.riscu.specs.declared.Instruction.the-variants.{Lui, Addi, Register, 
 use Rattle.riscu.specs.declared.Decoded.{Decoded}
 use Rattle.riscu.specs.declared.Decoded.the-variants.{Row, NoRow}
 use Rattle.listing.specs.Group.{Job, Group, after, sortOf, sortingOf, operand, classOf, View, viewOf}
-use Rattle.listing.specs.Ending.{Point, first, badAddress, operandOpen, operandValue, bothOpen, twoOpen, farApart}
+use Rattle.listing.specs.Ending.{Point, first, badAddress, operandOpen, bothOpen, twoOpen, farApart}
 use Rattle.listing.specs.Ending.{operationPoints, operandPoints, addressPoints, points, needs, endAt, endBy, endOf}
 use Rattle.listing.specs.declared.Operand.{Operand}
 use Rattle.listing.specs.declared.Operand.the-variants.{InRegister, Constant}
@@ -94,10 +94,6 @@ module _ (j : Job) (g : Group) (good : Good j g) where
   operandOpens (InRegister r) = openAt r
   operandOpens (Constant n) = refl
 
-  operandValues : (a : Operand) → operandValue (viewOf j g) a ≡ operandValue (cornersOf j g) a
-  operandValues (InRegister r) = value r
-  operandValues (Constant n) = refl
-
   both : (a b : Operand) → bothOpen (viewOf j g) a b ≡ bothOpen (cornersOf j g) a b
   both a b = cc (operandOpens a, operandOpens b)
 
@@ -128,11 +124,8 @@ module _ (j : Job) (g : Group) (good : Good j g) where
   operation-agrees Add a b wa wb = then (both a b) (λ n. done)
   operation-agrees Sub a b wa wb = then (two a b) (λ n. done)
   operation-agrees Mul a b wa wb =
-      then (both a b) (λ n.
-      then (cc (operandOpens b, operandValues a)) (λ _.
-      then (cc (operandOpens a, operandValues b)) (λ _.
-      then (quotient Mul a b wa wb (not-both j g a b tt n)) (λ _. done))))
-  operation-agrees Divu a b wa wb = then (operandOpens b) (λ _. then (cc (operandOpens a, operandValues b)) (λ _. done))
+      then (both a b) (λ n. then (quotient Mul a b wa wb (not-both j g a b tt n)) (λ _. done))
+  operation-agrees Divu a b wa wb = then (operandOpens b) (λ n. done)
   operation-agrees Remu a b wa wb =
       then (operandOpens b) (λ n. then (quotient Remu a b wa wb (inl (operand-closed j g b n))) (λ _. done))
   operation-agrees Sltu a b wa wb = then (two a b) (λ n. done)

@@ -7,6 +7,7 @@
 --     Unforked        one class on a group's box: no fork
 --     Itself          one register named twice: SUB, SLTU and BEQ go on
 --     ByZero          a fixed divisor 0: DIVU and REMU go on
+--     ByNumber        MUL and DIVU by a fixed number, whichever it is
 --     Corner          the corners decide the ending order and the pieces
 --     Needs           the entries that a step takes, by the corners
 --     Moves           induction along the moves; every waiting group has smooth steps behind it
@@ -21,6 +22,7 @@ pub mod Followed
 pub mod Unforked
 pub mod Itself
 pub mod ByZero
+pub mod ByNumber
 pub mod Corner
 pub mod Needs
 pub mod Moves

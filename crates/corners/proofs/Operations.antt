@@ -41,6 +41,16 @@ div-rises (suc m) {x} {y} h = le-div-iff-mul-le {k = suc m} (omega arith) .1 (om
 pub mod-rises : (m : ℕ) {x y : ℕ} → x ≤ y → x / m ≡ y / m → x % m ≤ y % m
 mod-rises m {x} {y} h e = let dx = div-add-mod x m in let dy = div-add-mod y m in omega (arith, rw e at dx)
 
+pub ltb-same : (a b c d : ℕ) → (a < b → c < d) → (c < d → a < b) → ltb a b ≡ ltb c d
+ltb-same a b c d f g =
+    elim (decLt a b) [
+      | yes h ↦ rw (lt-ltb a b h, lt-ltb c d (f h))
+      | no h ↦ elim (decLt c d) [
+        | yes k ↦ absurd (h (g k))
+        | no k ↦ rw (le-ltb a b (omega arith), le-ltb c d (omega arith))
+      ]
+    ]
+
 -- 1 where the test holds, 0 where not
 abbrev less : ℕ → ℕ → ℕ
 less a b = cond (ltb a b) 1 0

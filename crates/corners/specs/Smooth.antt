@@ -79,7 +79,7 @@ module _ (b : Box) (s : Choice → State) where
   abbrev pub PairSettled : Type 0 → Type 0 → Operand → Operand → Type 0
   PairSettled E I x y = OneSame E b (λ c. operand x (s c .registers)) (λ c. operand y (s c .registers)) ⊎ (I × (x ≡ y))
 
-  -- points 7 and 8, but for the reasons 2, 3 and 5
+  -- points 7 and 8, but for reason 5
   abbrev pub OperandsSettled : Sorting → Type 0
   OperandsSettled (Operates op x y) = PairSettled (EitherOpen op) (WithItself op) x y
   OperandsSettled (Compares x y) = PairSettled (Unit {0}) (Unit {0}) x y

@@ -11,19 +11,19 @@ use riscu::words::quotient;
 use riscu::words::sub;
 ghost use Prim.Native.Nat.{_<_, _^_};
 
-// The last multiple of c that the greater of two values has passed. No cut asks it of 0: REMU by 0, and MUL by 0 or by 1, have one class.
-fn top_multiple(c: u64, low: u64, high: u64) -> u64 {
-    let top = if low < high { high } else { low };
-    let p = product(quotient(top, c), c);
-    p.low
-}
-
 // The least value of the upper class of two, for an open operand that goes from low to high beside a fixed one.
 fn border(op: Operation, first: bool, low: u64, high: u64, other: u64) -> u64 {
+    let top = if low < high { high } else { low };
     match op {
         Operation::Add => sub(0, other),
-        Operation::Mul => top_multiple(add(quotient(18446744073709551615, other), 1), low, high),
-        Operation::Remu => top_multiple(other, low, high),
+        Operation::Mul => {
+            let p = product(top, other);
+            sub(top, quotient(p.low, other))
+        }
+        Operation::Remu => {
+            let p = product(quotient(top, other), other);
+            p.low
+        }
         _ => { if first { other } else { add(other, 1) } }
     }
 }
@@ -42,31 +42,61 @@ fn distance(a: u64, b: u64) -> u64 {
     if a < b { sub(b, a) } else { sub(a, b) }
 }
 
-// How often a width goes into one that is this much wider, to the nearest number.
-fn ratio(more: u64, width: u64) -> u64 {
-    add(quotient(add(more, width / 2), width), 1)
-}
-
-// How far the input goes while the operand goes this far: as far, or by the ratio of their widths. An operand that goes more slowly
-// than the input stays as often as that at each value.
-fn scaled(far: u64, operand: u64, input: u64) -> u64 {
-    if input <= operand {
-        quotient(far, ratio(sub(operand, input), input))
-    } else {
-        let stay = ratio(sub(input, operand), add(operand, 1));
-        let p = product(add(far, 1), stay);
-        sub(p.low, 1)
+// 128 bits divided by a word above the high half: long division, where each bit of the quotient takes the place of one of the low half.
+fn wide_quotient(high: u64, low: u64, c: u64) -> u64 {
+    if high == 0 {
+        return quotient(low, c);
     }
+    let mut rest = high;
+    let mut bits = low;
+    let mut k: usize = 0;
+    while k < 64 {
+        let carried = rest >> 63;
+        rest = add(add(rest, rest), bits >> 63);
+        bits = add(bits, bits);
+        if (carried == 1) | (c <= rest) {
+            rest = sub(rest, c);
+            bits = add(bits, 1);
+        }
+        k += 1;
+    }
+    bits
 }
 
-// The last value of the input before its operand, which goes from low to high, leaves the class that it has at lo.
+// Whether the quotients of lo and hi by c are this far apart.
+fn divides(c: u64, width: u64, lo: u64, hi: u64) -> bool {
+    sub(quotient(hi, c), quotient(lo, c)) == width
+}
+
+// The first input whose quotient by c is so far above that of lo.
+fn risen(c: u64, far: u64, lo: u64) -> u64 {
+    let p = product(add(quotient(lo, c), far), c);
+    p.low
+}
+
+// Where an operand has gone so far, if it goes by its width while the input goes from lo to hi: it is taken for a quotient of the
+// input, give or take a number, if a divisor fits both ends, and otherwise for a straight line.
+fn reached(far: u64, width: u64, lo: u64, hi: u64) -> u64 {
+    let c = quotient(sub(hi, lo), width);
+    if divides(c, width, lo, hi) {
+        return risen(c, far, lo);
+    }
+    let d = add(c, 1);
+    if divides(d, width, lo, hi) {
+        return risen(d, far, lo);
+    }
+    let p = product(far, sub(hi, lo));
+    add(lo, wide_quotient(p.high, p.low, width))
+}
+
+// Where the operand, which goes from low to high, passes its border.
 fn placed(border: u64, low: u64, high: u64, lo: u64, hi: u64) -> u64 {
     let far = if low < high {
-        sub(sub(border, low), 1)
+        sub(border, low)
     } else {
-        sub(low, border)
+        add(sub(low, border), 1)
     };
-    add(lo, scaled(far, distance(low, high), sub(hi, lo)))
+    reached(far, distance(low, high), lo, hi)
 }
 
 fn operation_hint(
@@ -93,7 +123,8 @@ fn branch_hint(a: u64, a_high: u64, b: u64, b_high: u64, lo: u64, hi: u64) -> u6
     }
 }
 
-// A guess at the last value of the input, from lo to hi, that has the class of lo at an instruction. Which word it is, is free.
+// A guess at the values of the input, from lo to hi, between which the class that lo has at an instruction ends: the lower or the upper
+// of the two. Which word it is, is free.
 pub fn hint(i: Instruction, low: &Registers, high: &Registers, lo: u64, hi: u64) -> u64
     ensures free { λ r. ⌜ r < 2 ^ 64 ⌝ }
 {

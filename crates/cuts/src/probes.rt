@@ -33,7 +33,7 @@ fn probe(
     class_of(i, registers)
 }
 
-// A point strictly between a and b: the hint at first, then points that move away from it by doubling, later the middle.
+// A point strictly between a and b: the hint at first, then points that move away from it by eight times as much each, later the middle.
 fn guess(a: u64, b: u64, hint: u64, turn: usize) -> u64
     requires { ⌜ a + 1 < b ⌝ }
     ensures { λ r. ⌜ (a < r) × (r < b) × (7 ≤ turn → (2 * (r - a) ≤ b - a + 1) × (2 * (b - r) ≤ b - a + 1)) ⌝ }
@@ -51,7 +51,7 @@ fn guess(a: u64, b: u64, hint: u64, turn: usize) -> u64
         }
         return hint;
     }
-    let away = 1u64 << (turn - 1);
+    let away = 1u64 << (3 * (turn - 1));
     if b - a <= away {
         return middle;
     }
@@ -62,7 +62,7 @@ fn guess(a: u64, b: u64, hint: u64, turn: usize) -> u64
 }
 
 // The last value of an input, from lo to below hi, whose class is that of lo, where one above it is not: at most 71 probes, and two
-// where the hint is that value. Registers and scratch are lent to run in, and what is left in them is free.
+// where the hint is that value or the next. Registers and scratch are lent to run in, and what is left in them is free.
 pub(crate) fn cut(
     code: &[u32],
     memory: &Memory,

@@ -17,7 +17,7 @@ use Rattle.riscu.specs.declared.Instruction.the-variants.{Lui, Addi, Register, 
 use Rattle.riscu.specs.declared.Decoded.{Decoded}
 use Rattle.riscu.specs.declared.Decoded.the-variants.{Row, NoRow}
 use Rattle.listing.specs.Group.{Job, Group, sortingOf, classOf}
-use Rattle.listing.specs.Ending.{Point, first, operandOpen, operandValue, operationPoints, operandPoints, addressPoints, points}
+use Rattle.listing.specs.Ending.{Point, first, operandOpen, operationPoints, operandPoints, addressPoints, points}
 use Rattle.listing.specs.Ending.{writes, needs, endAt, endBy}
 use Rattle.listing.specs.declared.Operand.{Operand}
 use Rattle.listing.specs.declared.Operand.the-variants.{InRegister, Constant}
@@ -66,18 +66,14 @@ module _ (j : Job) (g : Group) where
   open-by-registers (InRegister r) = refl
   open-by-registers (Constant n) = refl
 
-  value-by-registers : (a : Operand) → operandValue (cornerView low high) a ≡ operandValue (cornersOf j g) a
-  value-by-registers (InRegister r) = refl
-  value-by-registers (Constant n) = refl
-
   operation-by-registers : (op : Operation) (a b : Operand)
       → operationPoints (cornerView low high) op a b ≡ operationPoints (cornersOf j g) op a b
   unfolding operationPoints
   operation-by-registers Add a b = cc (open-by-registers a, open-by-registers b)
   operation-by-registers Sub a b = cc (open-by-registers a, open-by-registers b)
-  operation-by-registers Mul a b = cc (open-by-registers a, open-by-registers b, value-by-registers a, value-by-registers b)
-  operation-by-registers Divu a b = cc (open-by-registers a, open-by-registers b, value-by-registers b)
-  operation-by-registers Remu a b = cc (open-by-registers b, value-by-registers b)
+  operation-by-registers Mul a b = cc (open-by-registers a, open-by-registers b)
+  operation-by-registers Divu a b = cc (open-by-registers b)
+  operation-by-registers Remu a b = cc (open-by-registers b)
   operation-by-registers Sltu a b = cc (open-by-registers a, open-by-registers b)
 
   operands-by-registers : (x : Sorting) → operandPoints (cornerView low high) x ≡ operandPoints (cornersOf j g) x

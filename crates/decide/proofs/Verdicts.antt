@@ -4,11 +4,10 @@ use mathlib.Core.Bool.{Bool, true, false}
 use mathlib.Core.List.{List, [], _∷_, _++_}
 use Prim.Native.Nat.{ℕ, _+_, _-_, _<_, _≤_, min, max}
 use native.Mathlib.Omega.{arith}
-use native.Mathlib.Decide.{decLt}
 use lib.Dec.{ltb, eqb}
 use lib.IntN.{ℤ}
-use borrow.Author.Tests.{lt-ltb, le-ltb}
 use Rattle.boxes.proofs.Lists.{by-test}
+use Rattle.corners.proofs.Operations.{ltb-same}
 use Rattle.riscu.specs.declared.Instruction.the-variants.{Addi}
 use Rattle.listing.specs.Group.{sortingOf}
 use Rattle.listing.specs.Ending.{Point, _⇒_, callOpen, badCall, badRead, operationPoints, operandPoints, addressPoints, points}
@@ -65,16 +64,6 @@ callPoints l h k =
     ∷ (badRead v (eqb k 63) ⇒ BadAddress)
     ∷ (eqb k 93 ⇒ Exit)
     ∷ []
-
-ltb-same : (a b c d : ℕ) → (a < b → c < d) → (c < d → a < b) → ltb a b ≡ ltb c d
-ltb-same a b c d f g =
-    elim (decLt a b) [
-      | yes h ↦ rw (lt-ltb a b h, lt-ltb c d (f h))
-      | no h ↦ elim (decLt c d) [
-        | yes k ↦ absurd (h (g k))
-        | no k ↦ rw (le-ltb a b (omega arith), le-ltb c d (omega arith))
-      ]
-    ]
 
 pub apart-rising : (a b : ℕ) → a < b → ltb 1 (b - a) ≡ ltb (min a b + 1) (max a b)
 apart-rising a b h = ltb-same 1 (b - a) (min a b + 1) (max a b) (λ k. omega arith) (λ k. omega arith)

@@ -8,7 +8,6 @@ use riscu::Operation;
 use riscu::plain::Registers;
 use riscu::plain::register;
 use riscu::words;
-use riscu::words::Exponent;
 use riscu::words::widen;
 ghost use mathlib.Core.Path.{_≡_};
 ghost use mathlib.Core.Bool.{cond};
@@ -19,18 +18,8 @@ ghost use Rattle.riscu.specs.declared.Instruction.the-variants.{Addi, Register}
 ghost use Rattle.listing.specs.declared.Operand.the-variants.{InRegister};
 ghost use Rattle.listing.specs.declared.Sorting.the-variants.{Compares};
 ghost use Rattle.listing.specs.Group.{sortOf, comparison, operand, classBy, classOf};
-ghost use Rattle.listing.specs.Ending.{isPower, badAddress};
+ghost use Rattle.listing.specs.Ending.{badAddress};
 ghost use Rattle.decide.specs.Corner.{machine};
-
-pub(crate) fn is_power(n: u64) -> bool
-    ensures { λ r. ⌜ r ≡ isPower n ⌝ }
-{
-    let e = words::power_of(n);
-    match e {
-        Exponent::Power(_) => true,
-        Exponent::NotPower => false,
-    }
-}
 
 pub(crate) fn bad_address(a: u64) -> bool
     ensures { λ r. ⌜ r ≡ badAddress a ⌝ }

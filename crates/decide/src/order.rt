@@ -1,7 +1,6 @@
 // The ending order at the two corners: points 4 to 9, from the registers at the lowest inputs and at the highest.
 use crate::Verdict;
 use crate::classes::bad_address;
-use crate::classes::is_power;
 use crate::classes::least;
 use crate::classes::operands_sort;
 use listing::End;
@@ -22,8 +21,8 @@ ghost use Rattle.riscu.specs.declared.Operation.the-variants.{Add, Mul, Divu, R
 ghost use Rattle.riscu.specs.declared.Instruction.the-variants.{Register, Ld, Jalr, Ecall};
 ghost use Rattle.listing.specs.declared.Operand.the-variants.{InRegister};
 ghost use Rattle.listing.specs.declared.Sorting.the-variants.{Compares};
-ghost use Rattle.listing.specs.Ending.{openAt, valueAt, badAccess, callOpen, badCall, badRead, sameRegister, operandOpen, operandValue};
-ghost use Rattle.listing.specs.Ending.{bothOpen, twoOpen, neitherZeroNorPower, farApart, operationPoints, operandPoints, addressPoints, points};
+ghost use Rattle.listing.specs.Ending.{openAt, valueAt, badAccess, callOpen, badCall, badRead, sameRegister, operandOpen};
+ghost use Rattle.listing.specs.Ending.{bothOpen, twoOpen, farApart, operationPoints, operandPoints, addressPoints, points};
 ghost use Rattle.decide.specs.Corner.{cornerView, verdict};
 
 // Whether a register differs at the corners.
@@ -147,15 +146,6 @@ fn operand_open(low: &Registers, high: &Registers, o: Operand) -> bool
     }
 }
 
-fn operand_least(low: &Registers, high: &Registers, o: Operand) -> u64
-    ensures { λ v. ⌜ v ≡ operandValue (cornerView (now (low .entry)) (now (high .entry))) o ⌝ }
-{
-    match o {
-        Operand::InRegister(r) => value_at(low, high, r),
-        Operand::Constant(n) => n,
-    }
-}
-
 fn both_open(low: &Registers, high: &Registers, a: Operand, b: Operand) -> bool
     ensures { λ r. ⌜ r ≡ bothOpen (cornerView (now (low .entry)) (now (high .entry))) a b ⌝ }
 {
@@ -191,20 +181,6 @@ fn two_open(low: &Registers, high: &Registers, a: Operand, b: Operand) -> bool
     let x = both_open(low, high, a, b);
     let y = same_register(a, b);
     x & !y
-}
-
-// a is neither 0 nor a power of two, and b is open.
-fn neither_zero_nor_power(low: &Registers, high: &Registers, a: Operand, b: Operand) -> bool
-    ensures { λ r. ⌜ r ≡ neitherZeroNorPower (cornerView (now (low .entry)) (now (high .entry))) a b ⌝ }
-{
-    let x = operand_open(low, high, b);
-    if x {
-        let v = operand_least(low, high, a);
-        let p = is_power(v);
-        !((v == 0) | p)
-    } else {
-        false
-    }
 }
 
 // More than 1 apart.
@@ -249,12 +225,6 @@ fn product_points(low: &Registers, high: &Registers, a: Operand, b: Operand) -> 
     let Verdict::Passes = v else {
         return v;
     };
-    if neither_zero_nor_power(low, high, a, b) {
-        return Verdict::Ends(End::NotFollowed(Reason::Multiplier));
-    }
-    if neither_zero_nor_power(low, high, b, a) {
-        return Verdict::Ends(End::NotFollowed(Reason::Multiplier));
-    }
     if quotients(Operation::Mul, low, high, a, b) {
         return Verdict::Ends(End::NotFollowed(Reason::Quotients));
     }
@@ -266,9 +236,6 @@ fn quotient_points(low: &Registers, high: &Registers, a: Operand, b: Operand) ->
 {
     if operand_open(low, high, b) {
         return Verdict::Ends(End::NotFollowed(Reason::DivisorOpen));
-    }
-    if neither_zero_nor_power(low, high, b, a) {
-        return Verdict::Ends(End::NotFollowed(Reason::Divisor));
     }
     Verdict::Passes
 }

@@ -14,7 +14,7 @@ use Rattle.listing.specs.Group.{Job, after}
 use Rattle.listing.specs.Listing.{Path, listing}
 use Rattle.listing.specs.Numbers.{kindNumber, reasonNumber, reasonWord}
 use Rattle.listing.specs.declared.Reason.{Reason}
-use Rattle.listing.specs.declared.Reason.the-variants.{BothOpen, Multiplier, Divisor, DivisorOpen, Quotients, BaseOpen, CallOpen}
+use Rattle.listing.specs.declared.Reason.the-variants.{BothOpen, DivisorOpen, Quotients, BaseOpen, CallOpen}
 use Rattle.listing.specs.declared.End.{End}
 use Rattle.listing.specs.declared.End.the-variants.{Exit, BadPc, BadWord, BadAddress, BadCall, StepLimit, NotFollowed, TraceFull}
 use Rattle.corners.proofs.Uniform.{whole-after}
@@ -41,8 +41,6 @@ kind-small TraceFull = omega arith
 
 reason-number-small : (r : Reason) → reasonNumber r < 2 ^ 64
 reason-number-small BothOpen = omega arith
-reason-number-small Multiplier = omega arith
-reason-number-small Divisor = omega arith
 reason-number-small DivisorOpen = omega arith
 reason-number-small Quotients = omega arith
 reason-number-small BaseOpen = omega arith

@@ -8,15 +8,14 @@ use lib.ListN.{length, set, replicate}
 use Rattle.boxes.specs.Boxes.{Box, Interval, _⋯_, from, width, values, choices, size}
 use Rattle.boxes.specs.Boxes.{best, least, greatest, every, same, low, high, fixed}
 use Rattle.boxes.specs.Boxes.{keep, classes, hull, piece, pieces}
-use Rattle.riscu.specs.Word.{signed, widen, powerBelow}
+use Rattle.riscu.specs.Word.{signed, widen}
 use Rattle.riscu.specs.Decode.{rows, search, decodeOf}
 use Rattle.riscu.specs.Machine.{start, operate, readNext, step, fetch, stepDecoded, run}
 use Rattle.listing.specs.Group.{Job, after, sortOf, comparison, sortingOf, classBy, classOf}
-use Rattle.listing.specs.Ending.{first, anyPower, operationPoints, operandPoints, addressPoints, points}
+use Rattle.listing.specs.Ending.{first, operationPoints, operandPoints, addressPoints, points}
 use Rattle.listing.specs.Ending.{writes, needs, endAt, endBy}
 use Rattle.listing.specs.Listing.{Path, pathOf, splitBy, moveBy, moveFrom, moves, begin, enough, listing}
-use Rattle.listing.specs.declared.Reason.the-variants.{BothOpen, Multiplier, Divisor, DivisorOpen}
-use Rattle.listing.specs.declared.Reason.the-variants.{Quotients, BaseOpen, CallOpen}
+use Rattle.listing.specs.declared.Reason.the-variants.{BothOpen, DivisorOpen, Quotients, BaseOpen, CallOpen}
 use Rattle.listing.specs.declared.End.{End}
 use Rattle.listing.specs.declared.End.the-variants.{Exit, BadPc, BadWord, BadAddress}
 use Rattle.listing.specs.declared.End.the-variants.{BadCall, StepLimit, NotFollowed, TraceFull}
@@ -152,7 +151,7 @@ endings =
     ∷ [])
     ∷ []
 
--- reasons 1 to 6
+-- reasons 1 and 4 to 6
 abbrev pub operands : List (Job × List Path)
 operands =
     -- ADD of one open register twice
@@ -170,18 +169,6 @@ operands =
     [] 20 ((3 ⋯ 4) ∷ (4 ⋯ 5) ∷ []) 40
     (path (NotFollowed BothOpen) 32 8 ((3 ⋯ 4) ∷ (4 ⋯ 5) ∷ []) 2 ((5, 3 ⋯ 4) ∷ (7, 4 ⋯ 5) ∷ (10, 8 ⋯ 8) ∷ (11, 8 ⋯ 8)
     ∷ (12, 8 ⋯ 8) ∷ (17, 63 ⋯ 63) ∷ [])
-    ∷ [])
-    -- MUL by 3
-    ∷ example (reads (0x00300313 ∷ 0x02530533 ∷ []))
-    [] 20 ((3 ⋯ 6) ∷ []) 40
-    (path (NotFollowed Multiplier) 20 5 ((3 ⋯ 6) ∷ []) 1 ((5, 3 ⋯ 6) ∷ (6, 3 ⋯ 3) ∷ (10, 8 ⋯ 8) ∷ (12, 8 ⋯ 8)
-    ∷ (17, 63 ⋯ 63) ∷ [])
-    ∷ [])
-    -- DIVU by 3
-    ∷ example (reads (0x00300313 ∷ 0x0262D533 ∷ []))
-    [] 20 ((3 ⋯ 6) ∷ []) 40
-    (path (NotFollowed Divisor) 20 5 ((3 ⋯ 6) ∷ []) 1 ((5, 3 ⋯ 6) ∷ (6, 3 ⋯ 3) ∷ (10, 8 ⋯ 8) ∷ (12, 8 ⋯ 8)
-    ∷ (17, 63 ⋯ 63) ∷ [])
     ∷ [])
     -- DIVU by an open divisor
     ∷ example (reads (0x0252D533 ∷ []))
@@ -204,16 +191,6 @@ operands =
     (0 ∷ 0 ∷ half ∷ []) 20 ((0 ⋯ 4) ∷ []) 40
     (path (NotFollowed Quotients) 20 5 ((0 ⋯ 4) ∷ []) 1 ((5, 0 ⋯ 4) ∷ (6, half ⋯ half) ∷ (10, 8 ⋯ 8) ∷ (12, 8 ⋯ 8)
     ∷ (17, 63 ⋯ 63) ∷ [])
-    ∷ [])
-    -- MUL of fixed values by 3
-    ∷ example (reads (0x00300313 ∷ 0x02628533 ∷ []))
-    [] 20 ((5 ⋯ 5) ∷ []) 40
-    (path Exit 28 7 ((5 ⋯ 5) ∷ []) 1 ((5, 5 ⋯ 5) ∷ (6, 3 ⋯ 3) ∷ (10, 15 ⋯ 15) ∷ (12, 8 ⋯ 8) ∷ (17, 93 ⋯ 93) ∷ [])
-    ∷ [])
-    -- DIVU of fixed values by 3
-    ∷ example (reads (0x00300313 ∷ 0x0262D533 ∷ []))
-    [] 20 ((5 ⋯ 5) ∷ []) 40
-    (path Exit 28 7 ((5 ⋯ 5) ∷ []) 1 ((5, 5 ⋯ 5) ∷ (6, 3 ⋯ 3) ∷ (10, 1 ⋯ 1) ∷ (12, 8 ⋯ 8) ∷ (17, 93 ⋯ 93) ∷ [])
     ∷ [])
     -- LD with an open base
     ∷ example (reads (0x0042B503 ∷ []))
@@ -1152,8 +1129,7 @@ by-zero-used =
     -- DIVU by 0, then DIVU by it
     ∷ example (reads (0x0202D333 ∷ 0x0262D533 ∷ []))
     [] 20 ((3 ⋯ 6) ∷ []) 40
-    (path (NotFollowed Divisor) 20 5 ((3 ⋯ 6) ∷ []) 1 ((5, 3 ⋯ 6) ∷ (6, top ⋯ top) ∷ (10, 8 ⋯ 8) ∷ (12, 8 ⋯ 8)
-    ∷ (17, 63 ⋯ 63) ∷ [])
+    (path Exit 28 7 ((3 ⋯ 6) ∷ []) 1 ((5, 3 ⋯ 6) ∷ (6, top ⋯ top) ∷ (12, 8 ⋯ 8) ∷ (17, 93 ⋯ 93) ∷ [])
     ∷ [])
     -- DIVU by 0, then LD
     ∷ example (reads (0x0202D333 ∷ 0x00033503 ∷ []))
@@ -1198,6 +1174,303 @@ by-zero-entries =
     ∷ [])
     ∷ []
 
+-- MUL by any fixed number
+abbrev pub any-factor : List (Job × List Path)
+any-factor =
+    -- MUL by 3
+    example (reads (0x00300313 ∷ 0x02530533 ∷ []))
+    [] 20 ((3 ⋯ 6) ∷ []) 40
+    (path Exit 28 7 ((3 ⋯ 6) ∷ []) 1 ((5, 3 ⋯ 6) ∷ (6, 3 ⋯ 3) ∷ (10, 9 ⋯ 18) ∷ (12, 8 ⋯ 8) ∷ (17, 93 ⋯ 93) ∷ [])
+    ∷ [])
+    -- MUL of fixed values by 3
+    ∷ example (reads (0x00300313 ∷ 0x02628533 ∷ []))
+    [] 20 ((5 ⋯ 5) ∷ []) 40
+    (path Exit 28 7 ((5 ⋯ 5) ∷ []) 1 ((5, 5 ⋯ 5) ∷ (6, 3 ⋯ 3) ∷ (10, 15 ⋯ 15) ∷ (12, 8 ⋯ 8) ∷ (17, 93 ⋯ 93) ∷ [])
+    ∷ [])
+    -- MUL by 60, the wrap
+    ∷ example (reads (0x03C00313 ∷ 0x02628533 ∷ []))
+    [] 20 ((0x444444444444441 ⋯ 0x444444444444448) ∷ []) 40
+    (path Exit 28 7 ((0x444444444444441 ⋯ 0x444444444444444) ∷ []) 1 ((5, 0x444444444444441 ⋯ 0x444444444444444)
+    ∷ (6, 60 ⋯ 60) ∷ (10, (top - 195) ⋯ (top - 15)) ∷ (12, 8 ⋯ 8) ∷ (17, 93 ⋯ 93) ∷ [])
+    ∷ path Exit 28 7 ((0x444444444444445 ⋯ 0x444444444444448) ∷ []) 1 ((5, 0x444444444444445 ⋯ 0x444444444444448)
+    ∷ (6, 60 ⋯ 60) ∷ (10, 44 ⋯ 224) ∷ (12, 8 ⋯ 8) ∷ (17, 93 ⋯ 93) ∷ [])
+    ∷ [])
+    -- MUL with 60 first, the wrap
+    ∷ example (reads (0x03C00313 ∷ 0x02530533 ∷ []))
+    [] 20 ((0x444444444444444 ⋯ 0x444444444444446) ∷ []) 40
+    (path Exit 28 7 ((0x444444444444444 ⋯ 0x444444444444444) ∷ []) 1 ((5, 0x444444444444444 ⋯ 0x444444444444444)
+    ∷ (6, 60 ⋯ 60) ∷ (10, (top - 15) ⋯ (top - 15)) ∷ (12, 8 ⋯ 8) ∷ (17, 93 ⋯ 93) ∷ [])
+    ∷ path Exit 28 7 ((0x444444444444445 ⋯ 0x444444444444446) ∷ []) 1 ((5, 0x444444444444445 ⋯ 0x444444444444446)
+    ∷ (6, 60 ⋯ 60) ∷ (10, 44 ⋯ 104) ∷ (12, 8 ⋯ 8) ∷ (17, 93 ⋯ 93) ∷ [])
+    ∷ [])
+    -- MUL of fixed values by 60 wraps
+    ∷ example (reads (0x03C00313 ∷ 0x02530533 ∷ []))
+    [] 20 ((0x444444444444445 ⋯ 0x444444444444445) ∷ []) 40
+    (path Exit 28 7 ((0x444444444444445 ⋯ 0x444444444444445) ∷ []) 1 ((5, 0x444444444444445 ⋯ 0x444444444444445)
+    ∷ (6, 60 ⋯ 60) ∷ (10, 44 ⋯ 44) ∷ (12, 8 ⋯ 8) ∷ (17, 93 ⋯ 93) ∷ [])
+    ∷ [])
+    -- MUL into register 0 by 60
+    ∷ example (reads (0x03C00313 ∷ 0x02628033 ∷ []))
+    [] 20 ((0x444444444444444 ⋯ 0x444444444444445) ∷ []) 40
+    (path Exit 28 7 ((0x444444444444444 ⋯ 0x444444444444445) ∷ []) 1 ((5, 0x444444444444444 ⋯ 0x444444444444445)
+    ∷ (6, 60 ⋯ 60) ∷ (10, 8 ⋯ 8) ∷ (12, 8 ⋯ 8) ∷ (17, 93 ⋯ 93) ∷ [])
+    ∷ [])
+    -- MUL by 60, an entry too few for the fork
+    ∷ example (reads (0x03C00313 ∷ 0x02628533 ∷ []))
+    [] 20 ((0x444444444444444 ⋯ 0x444444444444445) ∷ []) 7
+    (path TraceFull 20 5 ((0x444444444444444 ⋯ 0x444444444444445) ∷ []) 1 ((5, 0x444444444444444 ⋯ 0x444444444444445)
+    ∷ (6, 60 ⋯ 60) ∷ (10, 8 ⋯ 8) ∷ (12, 8 ⋯ 8) ∷ (17, 63 ⋯ 63) ∷ [])
+    ∷ [])
+    -- MUL by 60, no entry after the fork
+    ∷ example (reads (0x03C00313 ∷ 0x02628533 ∷ []))
+    [] 20 ((0x444444444444444 ⋯ 0x444444444444445) ∷ []) 8
+    (path TraceFull 24 6 ((0x444444444444444 ⋯ 0x444444444444444) ∷ []) 1 ((5, 0x444444444444444 ⋯ 0x444444444444444)
+    ∷ (6, 60 ⋯ 60) ∷ (10, (top - 15) ⋯ (top - 15)) ∷ (12, 8 ⋯ 8) ∷ (17, 63 ⋯ 63) ∷ [])
+    ∷ path TraceFull 24 6 ((0x444444444444445 ⋯ 0x444444444444445) ∷ []) 1 ((5, 0x444444444444445 ⋯ 0x444444444444445)
+    ∷ (6, 60 ⋯ 60) ∷ (10, 44 ⋯ 44) ∷ (12, 8 ⋯ 8) ∷ (17, 63 ⋯ 63) ∷ [])
+    ∷ [])
+    -- v * 2^56 * 60 with two quotients
+    ∷ example (reads (0x03C00313 ∷ 0x01003383 ∷ 0x02728E33 ∷ 0x026E0533 ∷ []))
+    (0 ∷ 0 ∷ 0x100000000000000 ∷ []) 20 ((0 ⋯ 8) ∷ []) 40
+    (path Exit 36 9 ((0 ⋯ 4) ∷ []) 1 ((5, 0 ⋯ 4) ∷ (6, 60 ⋯ 60) ∷ (7, 0x100000000000000 ⋯ 0x100000000000000)
+    ∷ (10, 0 ⋯ 0xF000000000000000) ∷ (12, 8 ⋯ 8) ∷ (17, 93 ⋯ 93) ∷ (28, 0 ⋯ 0x400000000000000) ∷ [])
+    ∷ path Exit 36 9 ((5 ⋯ 8) ∷ []) 1 ((5, 5 ⋯ 8) ∷ (6, 60 ⋯ 60) ∷ (7, 0x100000000000000 ⋯ 0x100000000000000)
+    ∷ (10, 0x2C00000000000000 ⋯ 0xE000000000000000) ∷ (12, 8 ⋯ 8) ∷ (17, 93 ⋯ 93)
+    ∷ (28, 0x500000000000000 ⋯ 0x800000000000000) ∷ [])
+    ∷ [])
+    -- v * 2^56 * 60 with three quotients
+    ∷ example (reads (0x03C00313 ∷ 0x01003383 ∷ 0x02728E33 ∷ 0x026E0533 ∷ []))
+    (0 ∷ 0 ∷ 0x100000000000000 ∷ []) 20 ((0 ⋯ 9) ∷ []) 40
+    (path (NotFollowed Quotients) 28 7 ((0 ⋯ 9) ∷ []) 1 ((5, 0 ⋯ 9) ∷ (6, 60 ⋯ 60)
+    ∷ (7, 0x100000000000000 ⋯ 0x100000000000000) ∷ (10, 8 ⋯ 8) ∷ (12, 8 ⋯ 8) ∷ (17, 63 ⋯ 63)
+    ∷ (28, 0 ⋯ 0x900000000000000) ∷ [])
+    ∷ [])
+    -- MUL by MAX with two quotients
+    ∷ example (reads (0x01003303 ∷ 0x02628533 ∷ []))
+    (0 ∷ 0 ∷ top ∷ []) 20 ((0 ⋯ 2) ∷ []) 40
+    (path Exit 28 7 ((0 ⋯ 1) ∷ []) 1 ((5, 0 ⋯ 1) ∷ (6, top ⋯ top) ∷ (10, 0 ⋯ top) ∷ (12, 8 ⋯ 8) ∷ (17, 93 ⋯ 93) ∷ [])
+    ∷ path Exit 28 7 ((2 ⋯ 2) ∷ []) 1 ((5, 2 ⋯ 2) ∷ (6, top ⋯ top) ∷ (10, (top - 1) ⋯ (top - 1)) ∷ (12, 8 ⋯ 8)
+    ∷ (17, 93 ⋯ 93) ∷ [])
+    ∷ [])
+    -- MUL by MAX with three quotients
+    ∷ example (reads (0x01003303 ∷ 0x02628533 ∷ []))
+    (0 ∷ 0 ∷ top ∷ []) 20 ((0 ⋯ 3) ∷ []) 40
+    (path (NotFollowed Quotients) 20 5 ((0 ⋯ 3) ∷ []) 1 ((5, 0 ⋯ 3) ∷ (6, top ⋯ top) ∷ (10, 8 ⋯ 8) ∷ (12, 8 ⋯ 8)
+    ∷ (17, 63 ⋯ 63) ∷ [])
+    ∷ [])
+    -- a falling value times 60
+    ∷ example (reads (0x03C00313 ∷ 0x01003383 ∷ 0x405383B3 ∷ 0x02638533 ∷ []))
+    (0 ∷ 0 ∷ 0x444444444444447 ∷ []) 20 ((0 ⋯ 5) ∷ []) 40
+    (path Exit 36 9 ((0 ⋯ 2) ∷ []) 1 ((5, 0 ⋯ 2) ∷ (6, 60 ⋯ 60) ∷ (7, 0x444444444444445 ⋯ 0x444444444444447)
+    ∷ (10, 44 ⋯ 164) ∷ (12, 8 ⋯ 8) ∷ (17, 93 ⋯ 93) ∷ [])
+    ∷ path Exit 36 9 ((3 ⋯ 5) ∷ []) 1 ((5, 3 ⋯ 5) ∷ (6, 60 ⋯ 60) ∷ (7, 0x444444444444442 ⋯ 0x444444444444444)
+    ∷ (10, (top - 135) ⋯ (top - 15)) ∷ (12, 8 ⋯ 8) ∷ (17, 93 ⋯ 93) ∷ [])
+    ∷ [])
+    -- 0 - v times MAX
+    ∷ example (reads (0x01003303 ∷ 0x405003B3 ∷ 0x02638533 ∷ []))
+    (0 ∷ 0 ∷ top ∷ []) 20 ((1 ⋯ 2) ∷ []) 40
+    (path Exit 32 8 ((1 ⋯ 1) ∷ []) 1 ((5, 1 ⋯ 1) ∷ (6, top ⋯ top) ∷ (7, top ⋯ top) ∷ (10, 1 ⋯ 1) ∷ (12, 8 ⋯ 8)
+    ∷ (17, 93 ⋯ 93) ∷ [])
+    ∷ path Exit 32 8 ((2 ⋯ 2) ∷ []) 1 ((5, 2 ⋯ 2) ∷ (6, top ⋯ top) ∷ (7, (top - 1) ⋯ (top - 1)) ∷ (10, 2 ⋯ 2)
+    ∷ (12, 8 ⋯ 8) ∷ (17, 93 ⋯ 93) ∷ [])
+    ∷ [])
+    ∷ []
+
+-- DIVU by any fixed number
+abbrev pub any-divisor : List (Job × List Path)
+any-divisor =
+    -- DIVU by 3
+    example (reads (0x00300313 ∷ 0x0262D533 ∷ []))
+    [] 20 ((3 ⋯ 6) ∷ []) 40
+    (path Exit 28 7 ((3 ⋯ 6) ∷ []) 1 ((5, 3 ⋯ 6) ∷ (6, 3 ⋯ 3) ∷ (10, 1 ⋯ 2) ∷ (12, 8 ⋯ 8) ∷ (17, 93 ⋯ 93) ∷ [])
+    ∷ [])
+    -- DIVU of fixed values by 3
+    ∷ example (reads (0x00300313 ∷ 0x0262D533 ∷ []))
+    [] 20 ((5 ⋯ 5) ∷ []) 40
+    (path Exit 28 7 ((5 ⋯ 5) ∷ []) 1 ((5, 5 ⋯ 5) ∷ (6, 3 ⋯ 3) ∷ (10, 1 ⋯ 1) ∷ (12, 8 ⋯ 8) ∷ (17, 93 ⋯ 93) ∷ [])
+    ∷ [])
+    -- DIVU by 1
+    ∷ example (reads (0x00100313 ∷ 0x0262D533 ∷ []))
+    [] 20 ((3 ⋯ 6) ∷ []) 40
+    (path Exit 28 7 ((3 ⋯ 6) ∷ []) 1 ((5, 3 ⋯ 6) ∷ (6, 1 ⋯ 1) ∷ (10, 3 ⋯ 6) ∷ (12, 8 ⋯ 8) ∷ (17, 93 ⋯ 93) ∷ [])
+    ∷ [])
+    -- DIVU by MAX, then SLTU
+    ∷ example (reads (0x01003303 ∷ 0x0262D3B3 ∷ 0x00703533 ∷ []))
+    (0 ∷ 0 ∷ top ∷ []) 20 (((top - 2) ⋯ top) ∷ []) 40
+    (path Exit 32 8 (((top - 2) ⋯ (top - 1)) ∷ []) 1 ((5, (top - 2) ⋯ (top - 1)) ∷ (6, top ⋯ top) ∷ (12, 8 ⋯ 8)
+    ∷ (17, 93 ⋯ 93) ∷ [])
+    ∷ path Exit 32 8 ((top ⋯ top) ∷ []) 1 ((5, top ⋯ top) ∷ (6, top ⋯ top) ∷ (7, 1 ⋯ 1) ∷ (10, 1 ⋯ 1) ∷ (12, 8 ⋯ 8)
+    ∷ (17, 93 ⋯ 93) ∷ [])
+    ∷ [])
+    -- DIVU by 60 does not fork
+    ∷ example (reads (0x03C00313 ∷ 0x0262D533 ∷ []))
+    [] 20 ((595 ⋯ 604) ∷ []) 40
+    (path Exit 28 7 ((595 ⋯ 604) ∷ []) 1 ((5, 595 ⋯ 604) ∷ (6, 60 ⋯ 60) ∷ (10, 9 ⋯ 10) ∷ (12, 8 ⋯ 8) ∷ (17, 93 ⋯ 93)
+    ∷ [])
+    ∷ [])
+    -- DIVU into register 0 by 60
+    ∷ example (reads (0x03C00313 ∷ 0x0262D033 ∷ []))
+    [] 20 ((595 ⋯ 604) ∷ []) 40
+    (path Exit 28 7 ((595 ⋯ 604) ∷ []) 1 ((5, 595 ⋯ 604) ∷ (6, 60 ⋯ 60) ∷ (10, 8 ⋯ 8) ∷ (12, 8 ⋯ 8) ∷ (17, 93 ⋯ 93)
+    ∷ [])
+    ∷ [])
+    -- DIVU by 60, one entry left
+    ∷ example (reads (0x03C00313 ∷ 0x0262D533 ∷ []))
+    [] 20 ((598 ⋯ 601) ∷ []) 7
+    (path TraceFull 24 6 ((598 ⋯ 601) ∷ []) 1 ((5, 598 ⋯ 601) ∷ (6, 60 ⋯ 60) ∷ (10, 9 ⋯ 10) ∷ (12, 8 ⋯ 8)
+    ∷ (17, 63 ⋯ 63) ∷ [])
+    ∷ [])
+    -- DIVU by 60, then SLTU
+    ∷ example (reads (0x03C00313 ∷ 0x0262D3B3 ∷ 0x00A00E13 ∷ 0x01C3B533 ∷ []))
+    [] 20 ((595 ⋯ 604) ∷ []) 40
+    (path Exit 36 9 ((595 ⋯ 599) ∷ []) 1 ((5, 595 ⋯ 599) ∷ (6, 60 ⋯ 60) ∷ (7, 9 ⋯ 9) ∷ (10, 1 ⋯ 1) ∷ (12, 8 ⋯ 8)
+    ∷ (17, 93 ⋯ 93) ∷ (28, 10 ⋯ 10) ∷ [])
+    ∷ path Exit 36 9 ((600 ⋯ 604) ∷ []) 1 ((5, 600 ⋯ 604) ∷ (6, 60 ⋯ 60) ∷ (7, 10 ⋯ 10) ∷ (12, 8 ⋯ 8) ∷ (17, 93 ⋯ 93)
+    ∷ (28, 10 ⋯ 10) ∷ [])
+    ∷ [])
+    -- DIVU by 60, then BEQ
+    ∷ example (reads (0x03C00313 ∷ 0x0262D3B3 ∷ 0x00A00E13 ∷ 0x01C38463 ∷ 0x00100513 ∷ []))
+    [] 20 ((595 ⋯ 604) ∷ []) 40
+    (path Exit 40 10 ((595 ⋯ 599) ∷ []) 1 ((5, 595 ⋯ 599) ∷ (6, 60 ⋯ 60) ∷ (7, 9 ⋯ 9) ∷ (10, 1 ⋯ 1) ∷ (12, 8 ⋯ 8)
+    ∷ (17, 93 ⋯ 93) ∷ (28, 10 ⋯ 10) ∷ [])
+    ∷ path Exit 40 9 ((600 ⋯ 604) ∷ []) 1 ((5, 600 ⋯ 604) ∷ (6, 60 ⋯ 60) ∷ (7, 10 ⋯ 10) ∷ (10, 8 ⋯ 8) ∷ (12, 8 ⋯ 8)
+    ∷ (17, 93 ⋯ 93) ∷ (28, 10 ⋯ 10) ∷ [])
+    ∷ [])
+    -- DIVU by 3, then BEQ with three pieces
+    ∷ example (reads (0x00300313 ∷ 0x0262D3B3 ∷ 0x00638463 ∷ 0x00038513 ∷ []))
+    [] 20 ((5 ⋯ 13) ∷ []) 40
+    (path Exit 36 9 ((5 ⋯ 8) ∷ []) 1 ((5, 5 ⋯ 8) ∷ (6, 3 ⋯ 3) ∷ (7, 1 ⋯ 2) ∷ (10, 1 ⋯ 2) ∷ (12, 8 ⋯ 8) ∷ (17, 93 ⋯ 93)
+    ∷ [])
+    ∷ path Exit 36 8 ((9 ⋯ 11) ∷ []) 1 ((5, 9 ⋯ 11) ∷ (6, 3 ⋯ 3) ∷ (7, 3 ⋯ 3) ∷ (10, 8 ⋯ 8) ∷ (12, 8 ⋯ 8)
+    ∷ (17, 93 ⋯ 93) ∷ [])
+    ∷ path Exit 36 9 ((12 ⋯ 13) ∷ []) 1 ((5, 12 ⋯ 13) ∷ (6, 3 ⋯ 3) ∷ (7, 4 ⋯ 4) ∷ (10, 4 ⋯ 4) ∷ (12, 8 ⋯ 8)
+    ∷ (17, 93 ⋯ 93) ∷ [])
+    ∷ [])
+    -- a falling value over 60, then SLTU
+    ∷ example (reads (0x03C00313 ∷ 0x26C00393 ∷ 0x405383B3 ∷ 0x0263D3B3 ∷ 0x00A00E13 ∷ 0x01C3B533 ∷ []))
+    [] 20 ((16 ⋯ 24) ∷ []) 40
+    (path Exit 44 11 ((16 ⋯ 20) ∷ []) 1 ((5, 16 ⋯ 20) ∷ (6, 60 ⋯ 60) ∷ (7, 10 ⋯ 10) ∷ (12, 8 ⋯ 8) ∷ (17, 93 ⋯ 93)
+    ∷ (28, 10 ⋯ 10) ∷ [])
+    ∷ path Exit 44 11 ((21 ⋯ 24) ∷ []) 1 ((5, 21 ⋯ 24) ∷ (6, 60 ⋯ 60) ∷ (7, 9 ⋯ 9) ∷ (10, 1 ⋯ 1) ∷ (12, 8 ⋯ 8)
+    ∷ (17, 93 ⋯ 93) ∷ (28, 10 ⋯ 10) ∷ [])
+    ∷ [])
+    -- 0 - v over 60, then BEQ
+    ∷ example (reads (0x03C00313 ∷ 0x405003B3 ∷ 0x0263D3B3 ∷ 0x01003E03 ∷ 0x01C38463 ∷ 0x00100513 ∷ []))
+    (0 ∷ 0 ∷ 0x444444444444444 ∷ []) 20 ((13 ⋯ 20) ∷ []) 40
+    (path Exit 44 10 ((13 ⋯ 16) ∷ []) 1 ((5, 13 ⋯ 16) ∷ (6, 60 ⋯ 60) ∷ (7, 0x444444444444444 ⋯ 0x444444444444444)
+    ∷ (10, 8 ⋯ 8) ∷ (12, 8 ⋯ 8) ∷ (17, 93 ⋯ 93) ∷ (28, 0x444444444444444 ⋯ 0x444444444444444) ∷ [])
+    ∷ path Exit 44 11 ((17 ⋯ 20) ∷ []) 1 ((5, 17 ⋯ 20) ∷ (6, 60 ⋯ 60) ∷ (7, 0x444444444444443 ⋯ 0x444444444444443)
+    ∷ (10, 1 ⋯ 1) ∷ (12, 8 ⋯ 8) ∷ (17, 93 ⋯ 93) ∷ (28, 0x444444444444444 ⋯ 0x444444444444444) ∷ [])
+    ∷ [])
+    ∷ []
+
+-- what MUL and DIVU by any number give, used
+abbrev pub scaled-used : List (Job × List Path)
+scaled-used =
+    -- v * 60 < 301
+    example (reads (0x03C00313 ∷ 0x026283B3 ∷ 0x12D00E13 ∷ 0x01C3B533 ∷ []))
+    [] 20 ((3 ⋯ 8) ∷ []) 40
+    (path Exit 36 9 ((3 ⋯ 5) ∷ []) 1 ((5, 3 ⋯ 5) ∷ (6, 60 ⋯ 60) ∷ (7, 180 ⋯ 300) ∷ (10, 1 ⋯ 1) ∷ (12, 8 ⋯ 8)
+    ∷ (17, 93 ⋯ 93) ∷ (28, 301 ⋯ 301) ∷ [])
+    ∷ path Exit 36 9 ((6 ⋯ 8) ∷ []) 1 ((5, 6 ⋯ 8) ∷ (6, 60 ⋯ 60) ∷ (7, 360 ⋯ 480) ∷ (12, 8 ⋯ 8) ∷ (17, 93 ⋯ 93)
+    ∷ (28, 301 ⋯ 301) ∷ [])
+    ∷ [])
+    -- v * 60 is 300, with three pieces
+    ∷ example (reads (0x03C00313 ∷ 0x026283B3 ∷ 0x12C00E13 ∷ 0x01C38463 ∷ 0x00100513 ∷ []))
+    [] 20 ((3 ⋯ 8) ∷ []) 40
+    (path Exit 40 10 ((3 ⋯ 4) ∷ []) 1 ((5, 3 ⋯ 4) ∷ (6, 60 ⋯ 60) ∷ (7, 180 ⋯ 240) ∷ (10, 1 ⋯ 1) ∷ (12, 8 ⋯ 8)
+    ∷ (17, 93 ⋯ 93) ∷ (28, 300 ⋯ 300) ∷ [])
+    ∷ path Exit 40 9 ((5 ⋯ 5) ∷ []) 1 ((5, 5 ⋯ 5) ∷ (6, 60 ⋯ 60) ∷ (7, 300 ⋯ 300) ∷ (10, 8 ⋯ 8) ∷ (12, 8 ⋯ 8)
+    ∷ (17, 93 ⋯ 93) ∷ (28, 300 ⋯ 300) ∷ [])
+    ∷ path Exit 40 10 ((6 ⋯ 8) ∷ []) 1 ((5, 6 ⋯ 8) ∷ (6, 60 ⋯ 60) ∷ (7, 360 ⋯ 480) ∷ (10, 1 ⋯ 1) ∷ (12, 8 ⋯ 8)
+    ∷ (17, 93 ⋯ 93) ∷ (28, 300 ⋯ 300) ∷ [])
+    ∷ [])
+    -- v * 60 / 60
+    ∷ example (reads (0x03C00313 ∷ 0x026283B3 ∷ 0x0263D533 ∷ []))
+    [] 20 ((0x444444444444442 ⋯ 0x444444444444447) ∷ []) 40
+    (path Exit 32 8 ((0x444444444444442 ⋯ 0x444444444444444) ∷ []) 1 ((5, 0x444444444444442 ⋯ 0x444444444444444)
+    ∷ (6, 60 ⋯ 60) ∷ (7, (top - 135) ⋯ (top - 15)) ∷ (10, 0x444444444444442 ⋯ 0x444444444444444) ∷ (12, 8 ⋯ 8)
+    ∷ (17, 93 ⋯ 93) ∷ [])
+    ∷ path Exit 32 8 ((0x444444444444445 ⋯ 0x444444444444447) ∷ []) 1 ((5, 0x444444444444445 ⋯ 0x444444444444447)
+    ∷ (6, 60 ⋯ 60) ∷ (7, 44 ⋯ 164) ∷ (10, 0 ⋯ 2) ∷ (12, 8 ⋯ 8) ∷ (17, 93 ⋯ 93) ∷ [])
+    ∷ [])
+    -- v / 60 * 60
+    ∷ example (reads (0x03C00313 ∷ 0x0262D3B3 ∷ 0x02638533 ∷ []))
+    [] 20 ((595 ⋯ 604) ∷ []) 40
+    (path Exit 32 8 ((595 ⋯ 604) ∷ []) 1 ((5, 595 ⋯ 604) ∷ (6, 60 ⋯ 60) ∷ (7, 9 ⋯ 10) ∷ (10, 540 ⋯ 600) ∷ (12, 8 ⋯ 8)
+    ∷ (17, 93 ⋯ 93) ∷ [])
+    ∷ [])
+    -- v / 60 * 60 < 541
+    ∷ example (reads (0x03C00313 ∷ 0x0262D3B3 ∷ 0x026383B3 ∷ 0x21D00E13 ∷ 0x01C3B533 ∷ []))
+    [] 20 ((595 ⋯ 604) ∷ []) 40
+    (path Exit 40 10 ((595 ⋯ 599) ∷ []) 1 ((5, 595 ⋯ 599) ∷ (6, 60 ⋯ 60) ∷ (7, 540 ⋯ 540) ∷ (10, 1 ⋯ 1) ∷ (12, 8 ⋯ 8)
+    ∷ (17, 93 ⋯ 93) ∷ (28, 541 ⋯ 541) ∷ [])
+    ∷ path Exit 40 10 ((600 ⋯ 604) ∷ []) 1 ((5, 600 ⋯ 604) ∷ (6, 60 ⋯ 60) ∷ (7, 600 ⋯ 600) ∷ (12, 8 ⋯ 8) ∷ (17, 93 ⋯ 93)
+    ∷ (28, 541 ⋯ 541) ∷ [])
+    ∷ [])
+    -- v - v / 60 * 60
+    ∷ example (reads (0x03C00313 ∷ 0x0262D3B3 ∷ 0x026383B3 ∷ 0x40728533 ∷ []))
+    [] 20 ((595 ⋯ 604) ∷ []) 40
+    (path (NotFollowed BothOpen) 28 7 ((595 ⋯ 604) ∷ []) 1 ((5, 595 ⋯ 604) ∷ (6, 60 ⋯ 60) ∷ (7, 540 ⋯ 600) ∷ (10, 8 ⋯ 8)
+    ∷ (12, 8 ⋯ 8) ∷ (17, 63 ⋯ 63) ∷ [])
+    ∷ [])
+    -- v mod 60
+    ∷ example (reads (0x03C00313 ∷ 0x0262F533 ∷ []))
+    [] 20 ((595 ⋯ 604) ∷ []) 40
+    (path Exit 28 7 ((595 ⋯ 599) ∷ []) 1 ((5, 595 ⋯ 599) ∷ (6, 60 ⋯ 60) ∷ (10, 55 ⋯ 59) ∷ (12, 8 ⋯ 8) ∷ (17, 93 ⋯ 93)
+    ∷ [])
+    ∷ path Exit 28 7 ((600 ⋯ 604) ∷ []) 1 ((5, 600 ⋯ 604) ∷ (6, 60 ⋯ 60) ∷ (10, 0 ⋯ 4) ∷ (12, 8 ⋯ 8) ∷ (17, 93 ⋯ 93)
+    ∷ [])
+    ∷ [])
+    -- v / 60 is fixed, then LD
+    ∷ example (reads (0x03C00313 ∷ 0x0262D3B3 ∷ 0x0083B503 ∷ []))
+    (0 ∷ 0 ∷ 7 ∷ []) 20 ((484 ⋯ 489) ∷ []) 40
+    (path Exit 32 8 ((484 ⋯ 489) ∷ []) 1 ((5, 484 ⋯ 489) ∷ (6, 60 ⋯ 60) ∷ (7, 8 ⋯ 8) ∷ (10, 7 ⋯ 7) ∷ (12, 8 ⋯ 8)
+    ∷ (17, 93 ⋯ 93) ∷ [])
+    ∷ [])
+    -- v / 60 is fixed, then ADD
+    ∷ example (reads (0x03C00313 ∷ 0x0262D3B3 ∷ 0x00538533 ∷ []))
+    [] 20 ((540 ⋯ 545) ∷ []) 40
+    (path Exit 32 8 ((540 ⋯ 545) ∷ []) 1 ((5, 540 ⋯ 545) ∷ (6, 60 ⋯ 60) ∷ (7, 9 ⋯ 9) ∷ (10, 549 ⋯ 554) ∷ (12, 8 ⋯ 8)
+    ∷ (17, 93 ⋯ 93) ∷ [])
+    ∷ [])
+    -- a cut fixes v / 60, then ADD
+    ∷ example (reads (0x03C00313 ∷ 0x0262D3B3 ∷ 0x25800E13 ∷ 0x01C2BEB3 ∷ 0x00538533 ∷ []))
+    [] 20 ((595 ⋯ 604) ∷ []) 40
+    (path Exit 40 10 ((595 ⋯ 599) ∷ []) 1 ((5, 595 ⋯ 599) ∷ (6, 60 ⋯ 60) ∷ (7, 9 ⋯ 9) ∷ (10, 604 ⋯ 608) ∷ (12, 8 ⋯ 8)
+    ∷ (17, 93 ⋯ 93) ∷ (28, 600 ⋯ 600) ∷ (29, 1 ⋯ 1) ∷ [])
+    ∷ path Exit 40 10 ((600 ⋯ 604) ∷ []) 1 ((5, 600 ⋯ 604) ∷ (6, 60 ⋯ 60) ∷ (7, 10 ⋯ 10) ∷ (10, 610 ⋯ 614) ∷ (12, 8 ⋯ 8)
+    ∷ (17, 93 ⋯ 93) ∷ (28, 600 ⋯ 600) ∷ [])
+    ∷ [])
+    -- v / 3 mod 7
+    ∷ example (reads (0x00300313 ∷ 0x00700393 ∷ 0x0262DE33 ∷ 0x027E7533 ∷ []))
+    [] 20 ((17 ⋯ 24) ∷ []) 40
+    (path Exit 36 9 ((17 ⋯ 20) ∷ []) 1 ((5, 17 ⋯ 20) ∷ (6, 3 ⋯ 3) ∷ (7, 7 ⋯ 7) ∷ (10, 5 ⋯ 6) ∷ (12, 8 ⋯ 8)
+    ∷ (17, 93 ⋯ 93) ∷ (28, 5 ⋯ 6) ∷ [])
+    ∷ path Exit 36 9 ((21 ⋯ 24) ∷ []) 1 ((5, 21 ⋯ 24) ∷ (6, 3 ⋯ 3) ∷ (7, 7 ⋯ 7) ∷ (10, 0 ⋯ 1) ∷ (12, 8 ⋯ 8)
+    ∷ (17, 93 ⋯ 93) ∷ (28, 7 ⋯ 8) ∷ [])
+    ∷ [])
+    -- v * 3 mod 7 with three quotients
+    ∷ example (reads (0x00300313 ∷ 0x00700393 ∷ 0x02628E33 ∷ 0x027E7533 ∷ []))
+    [] 20 ((1 ⋯ 5) ∷ []) 40
+    (path (NotFollowed Quotients) 28 7 ((1 ⋯ 5) ∷ []) 1 ((5, 1 ⋯ 5) ∷ (6, 3 ⋯ 3) ∷ (7, 7 ⋯ 7) ∷ (10, 8 ⋯ 8)
+    ∷ (12, 8 ⋯ 8) ∷ (17, 63 ⋯ 63) ∷ (28, 3 ⋯ 15) ∷ [])
+    ∷ [])
+    -- v * 3 < 13, then w / 3 < 2
+    ∷ example (reads (0x00000513 ∷ 0x00800593 ∷ 0x00000073 ∷ 0x00803383 ∷ 0x00300313 ∷ 0x02628E33 ∷ 0x00D00E93
+    ∷ 0x01DE3EB3 ∷ 0x0263DE33 ∷ 0x00200E93 ∷ 0x01DE3533 ∷ []))
+    [] 20 ((3 ⋯ 5) ∷ (4 ⋯ 6) ∷ []) 40
+    (path Exit 64 16 ((3 ⋯ 4) ∷ (4 ⋯ 5) ∷ []) 2 ((5, 3 ⋯ 4) ∷ (6, 3 ⋯ 3) ∷ (7, 4 ⋯ 5) ∷ (10, 1 ⋯ 1) ∷ (11, 8 ⋯ 8)
+    ∷ (12, 8 ⋯ 8) ∷ (17, 93 ⋯ 93) ∷ (28, 1 ⋯ 1) ∷ (29, 2 ⋯ 2) ∷ [])
+    ∷ path Exit 64 16 ((3 ⋯ 4) ∷ (6 ⋯ 6) ∷ []) 2 ((5, 3 ⋯ 4) ∷ (6, 3 ⋯ 3) ∷ (7, 6 ⋯ 6) ∷ (11, 8 ⋯ 8) ∷ (12, 8 ⋯ 8)
+    ∷ (17, 93 ⋯ 93) ∷ (28, 2 ⋯ 2) ∷ (29, 2 ⋯ 2) ∷ [])
+    ∷ path Exit 64 16 ((5 ⋯ 5) ∷ (4 ⋯ 5) ∷ []) 2 ((5, 5 ⋯ 5) ∷ (6, 3 ⋯ 3) ∷ (7, 4 ⋯ 5) ∷ (10, 1 ⋯ 1) ∷ (11, 8 ⋯ 8)
+    ∷ (12, 8 ⋯ 8) ∷ (17, 93 ⋯ 93) ∷ (28, 1 ⋯ 1) ∷ (29, 2 ⋯ 2) ∷ [])
+    ∷ path Exit 64 16 ((5 ⋯ 5) ∷ (6 ⋯ 6) ∷ []) 2 ((5, 5 ⋯ 5) ∷ (6, 3 ⋯ 3) ∷ (7, 6 ⋯ 6) ∷ (11, 8 ⋯ 8) ∷ (12, 8 ⋯ 8)
+    ∷ (17, 93 ⋯ 93) ∷ (28, 2 ⋯ 2) ∷ (29, 2 ⋯ 2) ∷ [])
+    ∷ [])
+    ∷ []
+
 abbrev pub table : List (Job × List Path)
 table =
     endings
@@ -1218,6 +1491,9 @@ table =
     ++ by-zero
     ++ by-zero-used
     ++ by-zero-entries
+    ++ any-factor
+    ++ any-divisor
+    ++ scaled-used
 
 abbrev listed : Job × List Path → List Path
 listed x = listing (x .0)
@@ -1228,7 +1504,7 @@ expected x = x .1
 -- the whole table, by one computation
 pub examples-right : map listed table ≡ map expected table
 unfolding listing enough moves moveFrom moveBy splitBy pathOf begin
-    endBy endAt needs writes points addressPoints operandPoints operationPoints powerBelow anyPower first
+    endBy endAt needs writes points addressPoints operandPoints operationPoints first
     from width values choices flatMap size best least greatest every same low high fixed keep classes hull piece pieces
     classOf classBy sortingOf sortOf comparison after run stepDecoded fetch step readNext operate start decodeOf search rows signed widen
 examples-right = refl

@@ -1,6 +1,6 @@
 -- How a path ends: document 01's ten points, in its order. The first that applies decides, with the first reason named there.
 -- Point 8 is as document 02, No. 1, has it: with one open register twice SUB, SLTU and BEQ go on; ADD and MUL do not.
--- Points 7 and 8 are as No. 3 has them: a divisor that is fixed at 0 ends no path.
+-- Points 7 and 8 are as Nos. 3 and 5 have them: a fixed divisor ends no path, 0 included, and MUL by a fixed number at most with reason 5.
 use Prim.Native.Nat.{ℕ, _+_, _-_, _%_}
 use mathlib.Core.Bool.{Bool, true, false, cond, not, _&&_, _||_}
 use mathlib.Core.List.{List, [], _∷_, _++_}
@@ -8,10 +8,7 @@ use mathlib.Core.Option.{Option, none, some}
 use lib.Dec.{ltb, eqb}
 use lib.ListN.{length}
 use lib.IntN.{ℤ}
-use Rattle.riscu.specs.Word.{powerOf}
 use Rattle.riscu.specs.Machine.{State, reg, offset, badPc, fetch}
-use Rattle.riscu.specs.declared.words.Exponent.{Exponent}
-use Rattle.riscu.specs.declared.words.Exponent.the-variants.{Power, NotPower}
 use Rattle.riscu.specs.declared.Operation.{Operation}
 use Rattle.riscu.specs.declared.Operation.the-variants.{Add, Sub, Mul, Divu, Remu, Sltu}
 use Rattle.riscu.specs.declared.Instruction.{Instruction}
@@ -23,7 +20,7 @@ use Rattle.listing.specs.declared.Operand.{Operand}
 use Rattle.listing.specs.declared.Operand.the-variants.{InRegister, Constant}
 use Rattle.listing.specs.declared.Sorting.{Sorting}
 use Rattle.listing.specs.declared.Sorting.the-variants.{Operates, Compares, Nothing}
-use Rattle.listing.specs.declared.Reason.the-variants.{BothOpen, Multiplier, Divisor, DivisorOpen, Quotients, BaseOpen, CallOpen}
+use Rattle.listing.specs.declared.Reason.the-variants.{BothOpen, DivisorOpen, Quotients, BaseOpen, CallOpen}
 use Rattle.listing.specs.declared.End.{End}
 use Rattle.listing.specs.declared.End.the-variants.{Exit, BadPc, BadWord, BadAddress, BadCall, StepLimit, NotFollowed, TraceFull}
 
@@ -39,14 +36,6 @@ a ⇒ e = record { applies = a; end = e }
 unfoldable pub first : List Point → Option End
 first [] = none
 first (p ∷ ps) = cond (p .applies) (some (p .end)) (first ps)
-
--- whether a word is a power of two below 2^64: 2^0, 2^1, ..
-unfoldable pub anyPower : Exponent → Bool
-anyPower (Power k) = true
-anyPower NotPower = false
-
-abbrev pub isPower : ℕ → Bool
-isPower n = anyPower (powerOf n)
 
 -- the address of the last memory word
 abbrev pub lastAddress : ℕ
@@ -102,14 +91,10 @@ module _ (v : View) where
       ∷ (exit ⇒ Exit)
       ∷ []
 
-  -- whether an operand is open, and its value; a constant is never open
+  -- whether an operand is open; a constant never is
   abbrev pub operandOpen : Operand → Bool
   operandOpen (InRegister r) = openAt r
   operandOpen (Constant n) = false
-
-  abbrev pub operandValue : Operand → ℕ
-  operandValue (InRegister r) = valueAt r
-  operandValue (Constant n) = n
 
   -- both operands are open, even one register twice
   abbrev pub bothOpen : Operand → Operand → Bool
@@ -118,10 +103,6 @@ module _ (v : View) where
   -- both operands are open, and they are not one register twice
   abbrev pub twoOpen : Operand → Operand → Bool
   twoOpen a b = bothOpen a b && not (sameRegister a b)
-
-  -- a fixed multiplier or divisor a is neither 0 nor a power of two, and b is open
-  abbrev pub neitherZeroNorPower : Operand → Operand → Bool
-  neitherZeroNorPower a b = operandOpen b && not (eqb (operandValue a) 0 || isPower (operandValue a))
 
   -- the quotients at the open value's low and high are more than 1 apart: the quotient rises with the value
   abbrev pub farApart : Operation → Operand → Operand → Bool
@@ -134,13 +115,8 @@ module _ (v : View) where
   operationPoints Add a b = (bothOpen a b ⇒ NotFollowed BothOpen) ∷ []
   operationPoints Sub a b = (twoOpen a b ⇒ NotFollowed BothOpen) ∷ []
   operationPoints Sltu a b = (twoOpen a b ⇒ NotFollowed BothOpen) ∷ []
-  operationPoints Mul a b =
-      (bothOpen a b ⇒ NotFollowed BothOpen)
-      ∷ (neitherZeroNorPower a b ⇒ NotFollowed Multiplier)
-      ∷ (neitherZeroNorPower b a ⇒ NotFollowed Multiplier)
-      ∷ (farApart Mul a b ⇒ NotFollowed Quotients)
-      ∷ []
-  operationPoints Divu a b = (operandOpen b ⇒ NotFollowed DivisorOpen) ∷ (neitherZeroNorPower b a ⇒ NotFollowed Divisor) ∷ []
+  operationPoints Mul a b = (bothOpen a b ⇒ NotFollowed BothOpen) ∷ (farApart Mul a b ⇒ NotFollowed Quotients) ∷ []
+  operationPoints Divu a b = (operandOpen b ⇒ NotFollowed DivisorOpen) ∷ []
   operationPoints Remu a b = (operandOpen b ⇒ NotFollowed DivisorOpen) ∷ (farApart Remu a b ⇒ NotFollowed Quotients) ∷ []
 
   -- points 7 and 8, by what an instruction sorts by

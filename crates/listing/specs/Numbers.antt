@@ -1,14 +1,13 @@
--- Document 01's numbers for how a path ends. Kind 2, division by 0, no longer occurs (document 02, No. 3): its number stays unused.
+-- Document 01's numbers for how a path ends. Kind 2, division by 0, no longer occurs (document 02, No. 3), and neither do the reasons 2
+-- and 3, of multipliers and divisors that are no power of two (No. 5): their numbers stay unused.
 use Prim.Native.Nat.{ℕ}
 use Rattle.listing.specs.declared.Reason.{Reason}
-use Rattle.listing.specs.declared.Reason.the-variants.{BothOpen, Multiplier, Divisor, DivisorOpen, Quotients, BaseOpen, CallOpen}
+use Rattle.listing.specs.declared.Reason.the-variants.{BothOpen, DivisorOpen, Quotients, BaseOpen, CallOpen}
 use Rattle.listing.specs.declared.End.{End}
 use Rattle.listing.specs.declared.End.the-variants.{Exit, BadPc, BadWord, BadAddress, BadCall, StepLimit, NotFollowed, TraceFull}
 
 abbrev pub reasonNumber : Reason → ℕ
 reasonNumber BothOpen = 1
-reasonNumber Multiplier = 2
-reasonNumber Divisor = 3
 reasonNumber DivisorOpen = 4
 reasonNumber Quotients = 5
 reasonNumber BaseOpen = 6

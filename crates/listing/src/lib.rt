@@ -37,8 +37,6 @@ pub enum Sorting {
 
 pub enum Reason {
     BothOpen,
-    Multiplier,
-    Divisor,
     DivisorOpen,
     Quotients,
     BaseOpen,
@@ -133,8 +131,6 @@ fn reason_number(r: Reason) -> u64
 {
     match r {
         Reason::BothOpen => 1,
-        Reason::Multiplier => 2,
-        Reason::Divisor => 3,
         Reason::DivisorOpen => 4,
         Reason::Quotients => 5,
         Reason::BaseOpen => 6,

@@ -24,7 +24,7 @@ use Rattle.riscu.specs.declared.Decoded.{Decoded}
 use Rattle.riscu.specs.declared.Decoded.the-variants.{Row, NoRow}
 use Rattle.listing.specs.Group.{Job, Group, after, sortOf, sortingOf, operand, View, viewOf}
 use Rattle.listing.specs.Ending.{Point, _⇒_, first, lastAddress, badAddress, openAt, valueAt, badAccess, operandOpen, bothOpen, twoOpen}
-use Rattle.listing.specs.Ending.{neitherZeroNorPower, farApart, operationPoints, operandPoints, addressPoints, points, needs, endAt, endBy, endOf}
+use Rattle.listing.specs.Ending.{farApart, operationPoints, operandPoints, addressPoints, points, needs, endAt, endBy, endOf}
 use Rattle.listing.specs.declared.Operand.{Operand}
 use Rattle.listing.specs.declared.Operand.the-variants.{InRegister, Constant}
 use Rattle.listing.specs.declared.Sorting.{Sorting}
@@ -79,9 +79,6 @@ module _ (s : State) where
   one-not-two : (a b : Operand) → twoOpen (viewOfOne s) a b ≡ false
   one-not-two a b = rw (one-not-both a b)
 
-  one-multiplier : (a b : Operand) → neitherZeroNorPower (viewOfOne s) a b ≡ false
-  one-multiplier a b = rw (one-closed b)
-
   one-apart : (op : Operation) (a b : Operand) → farApart (viewOfOne s) op a b ≡ false
   one-apart op a b = let q = sortOf op (operand a (s .registers)) (operand b (s .registers)) in le-ltb (q + 1) q (omega arith)
 
@@ -101,12 +98,8 @@ module _ (j : Job) (g : Group) (c : Choice) (m : Inside c (g .box)) where
   operation-stops Add a b t = engine (omega arith) (one-not-both state a b) (λ _. full t)
   operation-stops Sub a b t = engine (omega arith) (one-not-two state a b) (λ _. full t)
   operation-stops Mul a b t =
-      engine (omega arith) (one-not-both state a b) (λ _.
-      engine (omega arith) (one-multiplier state a b) (λ _.
-      engine (omega arith) (one-multiplier state b a) (λ _.
-      engine (omega arith) (one-apart state Mul a b) (λ _. full t))))
-  operation-stops Divu a b t =
-      engine (omega arith) (one-closed state b) (λ _. engine (omega arith) (one-multiplier state b a) (λ _. full t))
+      engine (omega arith) (one-not-both state a b) (λ _. engine (omega arith) (one-apart state Mul a b) (λ _. full t))
+  operation-stops Divu a b t = engine (omega arith) (one-closed state b) (λ _. full t)
   operation-stops Remu a b t =
       engine (omega arith) (one-closed state b) (λ _. engine (omega arith) (one-apart state Remu a b) (λ _. full t))
   operation-stops Sltu a b t = engine (omega arith) (one-not-two state a b) (λ _. full t)
@@ -170,8 +163,8 @@ module _ (s : State) where
   unfolding operationPoints first
   operation-goes-on Add a b = rw (one-not-both s a b)
   operation-goes-on Sub a b = rw (one-not-two s a b)
-  operation-goes-on Mul a b = rw (one-not-both s a b, one-multiplier s a b, one-multiplier s b a, one-apart s Mul a b)
-  operation-goes-on Divu a b = rw (one-closed s b, one-multiplier s b a)
+  operation-goes-on Mul a b = rw (one-not-both s a b, one-apart s Mul a b)
+  operation-goes-on Divu a b = rw (one-closed s b)
   operation-goes-on Remu a b = rw (one-closed s b, one-apart s Remu a b)
   operation-goes-on Sltu a b = rw (one-not-two s a b)
 

@@ -11,9 +11,8 @@ use lib.Dec.{ltb, eqb}
 use lib.ListN.{length, take, drop, getD, length-drop}
 use lib.Pow.{pow-lt}
 use lib.Seq.{getD-take, getD-drop, length-take-le}
-use Rattle.riscu.specs.Powers.{powersFrom, placeOf}
+use Rattle.riscu.specs.Powers.{powerBelow, powerOf, powersFrom, placeOf}
 use Rattle.riscu.proofs.Search.{placed, absent}
-use Rattle.riscu.specs.Word.{powerBelow, powerOf}
 use Rattle.riscu.specs.declared.words.Exponent.{Exponent}
 use Rattle.riscu.specs.declared.words.Exponent.the-variants.{Power, NotPower}
 

@@ -1,8 +1,20 @@
--- The powers of two as the code's table holds them, and the search of a list.
+-- Which power of two a word is, the powers as the code's table holds them, and the search of a list. No rule asks for a power since
+-- document 02, No. 5: they stay for No. 9, where a shift by w is a product with 2^w, and nothing else uses them.
 use Prim.Native.Nat.{ℕ, zero, suc, _^_}
 use mathlib.Core.Bool.{cond}
 use mathlib.Core.List.{List, [], _∷_}
 use lib.Dec.{eqb}
+use Rattle.riscu.specs.declared.words.Exponent.{Exponent}
+use Rattle.riscu.specs.declared.words.Exponent.the-variants.{Power, NotPower}
+
+-- which of the lowest `count` powers of two n is: 2^0, 2^1, ..
+unfoldable pub powerBelow : ℕ → ℕ → Exponent
+powerBelow zero n = NotPower
+powerBelow (suc k) n = cond (eqb n (2 ^ k)) (Power k) (powerBelow k n)
+
+-- which power of two a word is
+abbrev pub powerOf : ℕ → Exponent
+powerOf = powerBelow 64
 
 -- `count` powers of two, from 2^k on
 unfoldable pub powersFrom : ℕ → ℕ → List ℕ

@@ -1,10 +1,8 @@
 -- Machine words: the unsigned numbers below 2^64. Every result is taken modulo 2^64.
-use Prim.Native.Nat.{ℕ, zero, suc, _-_, _%_, _^_}
+use Prim.Native.Nat.{ℕ, _-_, _%_, _^_}
 use mathlib.Core.Bool.{cond}
-use lib.Dec.{ltb, eqb}
+use lib.Dec.{ltb}
 use lib.IntN.{ℤ, pos, negsuc}
-use Rattle.riscu.specs.declared.words.Exponent.{Exponent}
-use Rattle.riscu.specs.declared.words.Exponent.the-variants.{Power, NotPower}
 
 abbrev pub size : ℕ
 size = 2 ^ 64
@@ -24,12 +22,3 @@ signed width n = cond (ltb n (2 ^ (width - 1))) (pos n) (negsuc (2 ^ width - 1 -
 unfoldable pub widen : ℤ → ℕ
 widen (pos n) = word n
 widen (negsuc n) = maxWord - n
-
--- which of the lowest `count` powers of two n is: 2^0, 2^1, ..
-unfoldable pub powerBelow : ℕ → ℕ → Exponent
-powerBelow zero n = NotPower
-powerBelow (suc k) n = cond (eqb n (2 ^ k)) (Power k) (powerBelow k n)
-
--- which power of two a word is
-abbrev pub powerOf : ℕ → Exponent
-powerOf = powerBelow 64

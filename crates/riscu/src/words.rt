@@ -5,8 +5,8 @@ ghost use mathlib.Core.Bool.{cond};
 ghost use Prim.Native.Nat.{_+_, _-_, _*_, _/_, _%_, _^_, _<_, _≤_};
 ghost use lib.Dec.{ltb, eqb};
 ghost use denote.Ref.{now};
-ghost use Rattle.riscu.specs.Powers.{placeOf};
-ghost use Rattle.riscu.specs.Word.{size, word, signed, widen, powerOf};
+ghost use Rattle.riscu.specs.Powers.{powerOf, placeOf};
+ghost use Rattle.riscu.specs.Word.{size, word, signed, widen};
 ghost use Rattle.riscu.specs.Machine.{operate};
 ghost use Rattle.riscu.specs.declared.Operation.the-variants.{Divu, Remu};
 

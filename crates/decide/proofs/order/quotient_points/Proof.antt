@@ -11,15 +11,7 @@ returns c = stops _ (sym (c .before .operand-open .ensures) ∙ c .if1 .taken)
 
 returns-2 : tie.Need-returns-2
 unfolding operationPoints
-returns-2 c =
-    goes _ _ (sym (c .before .before .before .operand-open .ensures) ∙ c .before .before .if1 .left)
-    (stops _ (sym (c .before .neither-zero-nor-power .ensures) ∙ c .if2 .taken))
-
-returns-3 : tie.Need-returns-3
-unfolding operationPoints
-returns-3 c =
-    goes _ _ (sym (c .before .before .before .operand-open .ensures) ∙ c .before .before .if1 .left)
-    (goes _ _ (sym (c .before .neither-zero-nor-power .ensures) ∙ c .if2 .left) passes)
+returns-2 c = goes _ _ (sym (c .before .operand-open .ensures) ∙ c .if1 .left) passes
 
 pub quotient-points-spec : {M : Type 1} → statement M
-quotient-points-spec = tie.close (tie.spec (λ c κs. search needs) returns (λ c κs. search needs) returns-2 returns-3)
+quotient-points-spec = tie.close (tie.spec (λ c κs. search needs) returns returns-2)
