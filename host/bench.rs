@@ -23,8 +23,8 @@ const RUNS: usize = 15;
 // ---------------------------------------------------------------------------------------------
 // Measuring.
 
-/// The runs' nanoseconds in rising order, each run being `repeats` calls.
-fn run_ns(repeats: u32, mut call: impl FnMut()) -> Vec<f64> {
+/// The median of the runs' nanoseconds, each run being `repeats` calls.
+fn median_ns(repeats: u32, mut call: impl FnMut()) -> f64 {
     call();
     let mut times: Vec<f64> = (0..RUNS)
         .map(|_| {
@@ -34,11 +34,7 @@ fn run_ns(repeats: u32, mut call: impl FnMut()) -> Vec<f64> {
         })
         .collect();
     times.sort_by(f64::total_cmp);
-    times
-}
-
-fn median_ns(repeats: u32, call: impl FnMut()) -> f64 {
-    run_ns(repeats, call)[RUNS / 2]
+    times[RUNS / 2]
 }
 
 /// What a call lends: a job, and room for so many entries and paths.
@@ -304,42 +300,65 @@ fn far_work(work: &[u32], numbers: [u64; 3], ends: Interval) -> Call {
     call
 }
 
-/// The fastest run, and the last input of the first of two paths.
-fn cut_ns(call: &Call) -> (f64, u64) {
+/// The speed of a machine changes from run to run, so the boxes are timed side by side, and often.
+const ROUNDS: usize = 101;
+
+/// The last input of the first of two paths.
+fn cut_of(call: &Call) -> u64 {
     let (mut table, mut report) = call.room();
     let reply = call.make(&mut table, &mut report);
     assert!(reply.refused == 0 && reply.count == 2, "{reply:?}");
     let records = read_pages(&report[..2 * path_bytes(1)], 1).expect("a page of the library");
-    let ns = run_ns(1, || {
+    records[0].intervals[0].1
+}
+
+/// The probes of the one cut of a box: two values around the cut need none, and three need one.
+fn probes(work: &[u32], numbers: [u64; 3], ends: Interval) -> u64 {
+    let last = cut_of(&far_work(work, numbers, ends));
+    let calls =
+        [ends, (last, last + 1), (last - 1, last + 1)].map(|ends| far_work(work, numbers, ends));
+    let (mut table, mut report) = calls[0].room();
+    let mut time = |call: &Call| {
+        let start = Instant::now();
         black_box(call.make(&mut table, &mut report));
-    });
-    (ns[0], records[0].intervals[0].1)
+        start.elapsed().as_nanos() as f64
+    };
+    let mut counts: Vec<f64> = (0..ROUNDS)
+        .map(|_| {
+            let [whole, none, one] = calls.each_ref().map(&mut time);
+            (whole - none) / (one - none)
+        })
+        .collect();
+    counts.sort_by(f64::total_cmp);
+    counts[ROUNDS / 2].round() as u64
 }
 
-/// The probes of the one cut of a box. Two values around the cut need none, and three need one.
-fn probes(work: &[u32], numbers: [u64; 3], ends: Interval) -> f64 {
-    let ns = |ends| cut_ns(&far_work(work, numbers, ends));
-    let (whole, last) = ns(ends);
-    let (none, one) = (ns((last, last + 1)).0, ns((last - 1, last + 1)).0);
-    (whole - none) / (one - none)
-}
+/// Boxes of one input: an hour in seconds, without and with its last second; some hours, from any second on; and large ones.
+type Boxes = (&'static str, fn(&mut Random) -> Interval);
 
-/// Haul times of some hours in seconds, from any second on.
-fn haul_times(random: &mut Random) -> Interval {
-    let low = 3600 + random.below(3600) as u64;
-    (low, low + 7200 + random.below(80_000) as u64)
-}
+const BOXES: [Boxes; 4] = [
+    ("0..3599", |_| (0, 3599)),
+    ("0..3600", |_| (0, 3600)),
+    ("2 to 24 hours", |random| {
+        let low = random.below(7200) as u64;
+        (low, low + 7200 + random.below(79_201) as u64)
+    }),
+    ("up to 2^56", |random| {
+        let low = random.below(1 << 40) as u64;
+        (low, low + (1 << 55) + random.below(1 << 50) as u64)
+    }),
+];
 
 /// Compared with the number that it is at some input.
-fn compared_probes(random: &mut Random, value: &Value, a: u64, b: u64) -> f64 {
+fn compared_probes(random: &mut Random, value: &Value, boxes: &Boxes, a: u64, b: u64) -> u64 {
     let (_, work, given) = value;
-    let (low, high) = haul_times(random);
+    let (low, high) = boxes.1(random);
     let at = random.between((low + 200, high - 200));
     probes(&[work(), vec![sltu(10, 7, 30)]].concat(), [a, b, given(at, a, b)], (low, high))
 }
 
 /// A product that passes a multiple of 2^64.
-fn passing_probes(random: &mut Random, a: u64) -> f64 {
+fn passing_probes(random: &mut Random, a: u64) -> u64 {
     let passed = 1 + random.below(a as usize - 1) as u128;
     let first = ((passed << 64).div_ceil(a as u128)) as u64;
     let (below, above) = (random.below(1 << 40) as u64, random.below(1 << 40) as u64);
@@ -494,7 +513,8 @@ const CUTS: usize = 20;
 
 fn print_probes() {
     println!("\n## Probes of a cut\n");
-    println!("| value | a, b | cuts | probes a cut | most |\n|---|---|---|---|---|");
+    let boxes = BOXES.map(|boxes| boxes.0).join(" | ");
+    println!("| value compared | a, b | {boxes} |\n|---|---|---|---|---|---|");
     let numbers: [&[(u64, u64)]; 5] = [
         &[(1, 1)],
         &[(64, 1), (60, 1)],
@@ -504,22 +524,22 @@ fn print_probes() {
     ];
     for (value, pairs) in VALUES.iter().zip(numbers) {
         for &(a, b) in pairs {
-            let random = &mut Random(1);
-            let count = || compared_probes(random, value, a, b);
-            print_counts(&format!("{}, compared | {a}, {b}", value.0), count);
+            let count = |boxes| counts(|random| compared_probes(random, value, boxes, a, b));
+            println!("| {} | {a}, {b} | {} |", value.0, BOXES.each_ref().map(count).join(" | "));
         }
     }
     for a in [64, 60] {
-        let random = &mut Random(1);
-        print_counts(&format!("v * a past 2^64 | {a}"), || passing_probes(random, a));
+        let counts = counts(|random| passing_probes(random, a));
+        println!("\nA product by {a} that passes a multiple of 2^64: {counts}.");
     }
 }
 
-fn print_counts(name: &str, count: impl FnMut() -> f64) {
-    let counts: Vec<f64> = std::iter::repeat_with(count).take(CUTS).collect();
-    let mean = counts.iter().sum::<f64>() / CUTS as f64;
-    let most = counts.iter().copied().fold(0.0, f64::max);
-    println!("| {name} | {CUTS} | {mean:.1} | {most:.1} |");
+/// The mean, and in brackets the most.
+fn counts(count: impl Fn(&mut Random) -> u64) -> String {
+    let random = &mut Random(1);
+    let counts: Vec<u64> = (0..CUTS).map(|_| count(random)).collect();
+    let mean = counts.iter().sum::<u64>() as f64 / CUTS as f64;
+    format!("{mean:.1} ({})", counts.iter().max().expect("a cut"))
 }
 
 fn print_typical_jobs() {

@@ -632,16 +632,31 @@ fn run_wide_products() -> Result<u64, Failure> {
     // the product by 2 has two quotients at most
     for &number in numbers().range(3..) {
         let third = (2_u128 << u64::BITS).div_ceil(number as u128) as u64;
-        for high in [third - 1, third] {
-            let mut lent = lent_numbers(random, [number, 0]);
-            let job = numbers_job(&lent, &[mul(10, 5, 6)], (0, high));
-            let mut task = Task::new(job, Vec::new(), BTreeSet::new());
-            let listing = own_listing(random, &mut lent, &mut task);
-            listing.map_err(|fault| failure(&lent, &task.job, fault))?;
-            jobs += 1;
-        }
+        run_wide_product(random, number, third - 1, &[0, 0])?;
+        run_wide_product(random, number, third, &[oracle::QUOTIENTS])?;
+        jobs += 2;
     }
     Ok(jobs)
+}
+
+/// The paths have these reasons.
+fn run_wide_product(
+    random: &mut Random,
+    number: u64,
+    high: u64,
+    expected: &[u64],
+) -> Result<(), Failure> {
+    let mut lent = lent_numbers(random, [number, 0]);
+    let job = numbers_job(&lent, &[mul(10, 5, 6)], (0, high));
+    let mut task = Task::new(job, Vec::new(), BTreeSet::new());
+    let listing = own_listing(random, &mut lent, &mut task);
+    let listing = listing.map_err(|fault| failure(&lent, &task.job, fault))?;
+    let reasons: Vec<u64> = listing.iter().map(|path| path.reason).collect();
+    if reasons != expected {
+        let fault = format!("paths with the reasons {reasons:?}, expected {expected:?}");
+        return Err(failure(&lent, &task.job, fault));
+    }
+    Ok(())
 }
 
 fn show(which: &str, failure: &Failure) {

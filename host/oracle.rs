@@ -710,16 +710,16 @@ pub const TO_MEET: [&str; 13] = [
     "DIVU by zero",
     "REMU by zero",
     // No. 5 of document 02: by a fixed number that is neither 0 nor a power of two
-    "MUL by another",
-    "DIVU by another",
-    "MUL by another with two quotients",
-    "MUL by another with more",
+    "MUL by no power",
+    "DIVU by no power",
+    "MUL by no power with two quotients",
+    "MUL by no power with more",
 ];
 const BEQ_TWICE: usize = 6;
 const DIVU_BY_ZERO: usize = 7;
 const REMU_BY_ZERO: usize = 8;
-const MUL_BY_ANOTHER: usize = 9;
-const DIVU_BY_ANOTHER: usize = 10;
+const MUL_BY_NO_POWER: usize = 9;
+const DIVU_BY_NO_POWER: usize = 10;
 const TWO_QUOTIENTS: usize = 11;
 const MORE_QUOTIENTS: usize = 12;
 
@@ -757,15 +757,15 @@ fn meets_by(group: &Group, operation: Operation, value: usize, by: usize) -> Vec
         return Vec::new();
     }
     let number = group.value(by);
-    let another = number != 0 && !number.is_power_of_two();
+    let no_power = number != 0 && !number.is_power_of_two();
     let places: &[usize] = match operation {
         Operation::Divu if number == 0 => &[DIVU_BY_ZERO],
         Operation::Remu if number == 0 => &[REMU_BY_ZERO],
-        Operation::Divu if another => &[DIVU_BY_ANOTHER],
-        Operation::Mul if another => match quotients_apart(group, operation, value, by) {
-            0 => &[MUL_BY_ANOTHER],
-            1 => &[MUL_BY_ANOTHER, TWO_QUOTIENTS],
-            _ => &[MUL_BY_ANOTHER, MORE_QUOTIENTS],
+        Operation::Divu if no_power => &[DIVU_BY_NO_POWER],
+        Operation::Mul if no_power => match quotients_apart(group, operation, value, by) {
+            0 => &[MUL_BY_NO_POWER],
+            1 => &[MUL_BY_NO_POWER, TWO_QUOTIENTS],
+            _ => &[MUL_BY_NO_POWER, MORE_QUOTIENTS],
         },
         _ => &[],
     };

@@ -581,7 +581,7 @@ fn registers_named_twice_are_met_open_or_fixed() {
         ("MUL twice", false),
         ("MUL twice", true),
         ("SLTU twice", true),
-        ("MUL by another", false),
+        ("MUL by no power", false),
     ];
     assert_eq!(met(&work, 3, 6, 100), expected);
     assert_eq!(met(&[beq(5, 5, 4)], 3, 6, 100), [("BEQ twice", true)]);
@@ -610,16 +610,16 @@ fn divisions_by_0_are_met_open_or_fixed() {
 fn other_factors_and_divisors_are_met() {
     let by_60 = |word: u32, low, high| met(&[addi(6, 0, 60), word], low, high, 100);
     for product in [mul(10, 5, 6), mul(10, 6, 5)] {
-        assert_eq!(by_60(product, 3, 6), [("MUL by another", true)]);
-        assert_eq!(by_60(product, 5, 5), [("MUL by another", false)]);
-        let two = [("MUL by another", true), ("MUL by another with two quotients", true)];
+        assert_eq!(by_60(product, 3, 6), [("MUL by no power", true)]);
+        assert_eq!(by_60(product, 5, 5), [("MUL by no power", false)]);
+        let two = [("MUL by no power", true), ("MUL by no power with two quotients", true)];
         assert_eq!(by_60(product, SIXTIETH, SIXTIETH + 1), two);
     }
     let more =
-        [("DIVU by zero", true), ("MUL by another", true), ("MUL by another with more", true)];
+        [("DIVU by zero", true), ("MUL by no power", true), ("MUL by no power with more", true)];
     assert_eq!(met(&[divu(6, 5, 0), mul(10, 5, 6)], 0, 3, 100), more);
-    assert_eq!(by_60(divu(10, 5, 6), 3, 6), [("DIVU by another", true)]);
-    assert_eq!(by_60(divu(10, 2, 6), 3, 6), [("DIVU by another", false)]);
+    assert_eq!(by_60(divu(10, 5, 6), 3, 6), [("DIVU by no power", true)]);
+    assert_eq!(by_60(divu(10, 2, 6), 3, 6), [("DIVU by no power", false)]);
     // into register 0, as dividend, by REMU, by 0, by 1 and by 64
     assert!(by_60(mul(0, 5, 6), 3, 6).is_empty() && by_60(divu(10, 6, 5), 3, 6).is_empty());
     assert!(by_60(remu(10, 5, 6), 3, 6).is_empty() && by_60(mul(10, 5, 0), 3, 6).is_empty());

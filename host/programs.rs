@@ -81,7 +81,7 @@ fn any_factor(random: &mut Random) -> u64 {
     random.pick(&[small, small, small, usual, usual, any, highest])
 }
 
-/// By this number the product passes a multiple of 2^64 at some value of the box.
+/// By this number the product passes a multiple of 2^64 near some value of the box, where it can.
 fn wrapping_factor(random: &mut Random, intervals: &[Interval]) -> u64 {
     if intervals.is_empty() {
         return random.next();
@@ -273,7 +273,7 @@ impl Writer<'_> {
         }
     }
 
-    /// With the number in register 25, which is near it.
+    /// Compares the result with the number in register 25, which is near it.
     fn compare(&mut self, result: u32) {
         let other = self.value();
         let words: [&[u32]; 6] = [

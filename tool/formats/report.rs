@@ -269,9 +269,9 @@ mod tests {
 
     #[test]
     fn kind_8_has_a_reason_and_no_exit() {
-        let first = [(1, 8), (2, 20), (3, 5), (4, 2), (5, 1), (13, 2), (6, 3), (14, 4), (23, 2)];
+        let first = [(1, 8), (2, 20), (3, 5), (4, 2), (5, 1), (13, 2), (6, 3), (14, 4), (23, 4)];
         let record = read(&bytes_of(&first, &[])).unwrap();
-        assert_eq!(line(&record), "path 0 end 8 at 20 steps 5 in 1..2 in 3..4 reason 2\n");
+        assert_eq!(line(&record), "path 0 end 8 at 20 steps 5 in 1..2 in 3..4 reason 4\n");
     }
 
     #[test]

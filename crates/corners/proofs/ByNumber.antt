@@ -1,12 +1,12 @@
 -- MUL and DIVU by a fixed number, whichever it is (document 02, No. 5). Followed: DIVU by it ends at none of the points 4 to 9 and never
--- forks; MUL by it can end with reason 5 alone. Carried forward: the result has its ends where the other operand has its own, for MUL in
--- one class. Cut back: a comparison of the result is a comparison of the other operand, so a cut through a quotient is at a multiple.
+-- forks; MUL by it, from either side, can end with reason 5 alone. Carried forward: the result has its ends where the other operand has
+-- its own, for MUL in one class. Cut back: a comparison of the result is one of the other operand, for MUL in one class.
 -- Assumes nothing.
-use mathlib.Core.Path.{_≡_}
+use mathlib.Core.Path.{_≡_, ap}
 use mathlib.Core.Bool.{false, cond}
 use mathlib.Core.Option.{none, some}
 use Prim.Native.Nat.{ℕ, _+_, _-_, _*_, _/_, _≤_, _<_}
-use native.Mathlib.Nat.{le-div-iff-mul-le, div-lt-iff-lt-mul, suc-mul, mul-le-mul-right}
+use native.Mathlib.Nat.{le-div-iff-mul-le, div-lt-iff-lt-mul, div-add-mod, suc-mul, mul-comm, mul-le-mul-right}
 use native.Mathlib.Omega.{arith}
 use lib.Dec.{eqb, ltb}
 use borrow.Author.Tests.{ne-eqb}
@@ -46,6 +46,11 @@ pub mul-class : (rd q r : ℕ) (s : State) → eqb rd 0 ≡ false → classOf (R
 unfolding classOf classBy sortingOf sortOf
 mul-class rd q r s z = rw z
 
+-- the side of the fixed number does not matter
+pub mul-either-side : (x y : ℕ) → (operate Mul x y ≡ operate Mul y x) × (sortOf Mul x y ≡ sortOf Mul y x)
+unfolding operate sortOf
+mul-either-side x y = (ap word (mul-comm x y), ap (λ (p : ℕ). p / size) (mul-comm x y))
+
 -- Carried forward, in a group in whose box register r is k for every choice.
 
 module _ (j : Job) (g : Group) (proper : Proper (g .box)) (q r k : ℕ)
@@ -69,6 +74,16 @@ module _ (j : Job) (g : Group) (proper : Proper (g .box)) (q r k : ℕ)
       carried (λ s. operate Divu (reg q s) (reg r s)) (λ x. x / k)
       (λ c m. rw (is c m, ne-eqb k 0 (omega arith))) (λ c d m n l. div-rises k l)
 
+  -- reason 5 by the quotients at the other operand's low and high
+  pub mul-apart : farApart (viewOf j g) Mul (InRegister q) (InRegister r)
+      ≡ ltb (viewOf j g .lowest (reg q) * k / size + 1) (viewOf j g .highest (reg q) * k / size)
+  unfolding sortOf
+  mul-apart =
+      let (l, h) = carried (λ s. sortOf Mul (reg q s) (reg r s)) (λ x. x * k / size)
+      (λ c m. rw (is c m)) (λ c d m n l. div-rises size (mul-le-mul-right k l)) in
+      rw (l, h)
+
+  -- in one class
   pub mul-ends : Same (g .box) (λ c. value c * k / size) → let f : State → ℕ = λ s. operate Mul (reg q s) (reg r s) in
       (viewOf j g .lowest f ≡ word (viewOf j g .lowest (reg q) * k)) × (viewOf j g .highest f ≡ word (viewOf j g .highest (reg q) * k))
   unfolding operate
@@ -81,8 +96,10 @@ module _ (j : Job) (g : Group) (proper : Proper (g .box)) (q r k : ℕ)
 pub divu-compared : (k : ℕ) → 0 < k → (x c : ℕ) → ltb (x / k) c ≡ ltb x (c * k)
 divu-compared k h x c = ltb-same (x / k) c x (c * k) (div-lt-iff-lt-mul h .0) (div-lt-iff-lt-mul h .1)
 
-pub mul-compared : (k : ℕ) → 0 < k → (x c : ℕ) → ltb (x * k) c ≡ ltb x ((c + (k - 1)) / k)
-mul-compared k h x c =
-    ltb-same (x * k) c x ((c + (k - 1)) / k)
-    (λ l. le-div-iff-mul-le h .1 (omega (arith, suc-mul x k)))
-    (λ l. omega (arith, suc-mul x k, le-div-iff-mul-le h .0 l))
+-- in class n
+pub mul-compared : (k : ℕ) → 0 < k → (n x c : ℕ) → x * k / size ≡ n → ltb (word (x * k)) c ≡ ltb x ((c + n * size + (k - 1)) / k)
+mul-compared k h n x c e =
+    let d = div-add-mod (x * k) size in
+    ltb-same (word (x * k)) c x ((c + n * size + (k - 1)) / k)
+    (λ l. le-div-iff-mul-le h .1 (omega (arith, suc-mul x k, d, e)))
+    (λ l. omega (arith, suc-mul x k, d, e, le-div-iff-mul-le h .0 l))

@@ -25,6 +25,7 @@ use Rattle.listing.specs.declared.End.the-variants.{NotFollowed}
 use Rattle.corners.specs.Smooth.{Same, EitherOpen}
 use Rattle.corners.proofs.Followed.{lowest-at}
 use Rattle.corners.proofs.Unforked.{Unforked, one-class}
+use Rattle.corners.proofs.ByNumber.{divu-passes, divu-unforked}
 
 -- DIVU and REMU: the operations whose second operand may not be the open one
 abbrev pub IsDivision : Operation → Type 0
@@ -39,9 +40,9 @@ of-division P p q Divu d = p
 of-division P p q Remu d = q
 of-division P p q Sltu d = absurd (d tt)
 
-class-by-0 : (op : Operation) → IsDivision op → (x y : ℕ) → y ≡ 0 → sortOf op x y ≡ 0
+class-by-0 : (x y : ℕ) → y ≡ 0 → sortOf Remu x y ≡ 0
 unfolding sortOf
-class-by-0 = of-division (λ op. (x y : ℕ) → y ≡ 0 → sortOf op x y ≡ 0) (λ x y e. refl) (λ x y e. rw (eq-eqb y 0 e))
+class-by-0 x y e = rw (eq-eqb y 0 e)
 
 -- a group in whose box register r is 0 for every choice
 module _ (j : Job) (g : Group) (proper : Proper (g .box)) (r : ℕ)
@@ -56,29 +57,32 @@ module _ (j : Job) (g : Group) (proper : Proper (g .box)) (r : ℕ)
   no-reason-5 : (q : ℕ) → farApart (viewOf j g) Remu (InRegister q) (InRegister r) ≡ false
   no-reason-5 q =
       let f : Choice → ℕ = λ c. sortOf Remu (reg q (after j (g .steps) c)) (reg r (after j (g .steps) c)) in
-      let k : (c : Choice) → Inside c (g .box) → f c ≡ 0 = λ c m. class-by-0 Remu (λ e. e) _ _ (zero c m) in
+      let k : (c : Choice) → Inside c (g .box) → f c ≡ 0 = λ c m. class-by-0 _ _ (zero c m) in
       let l = lows (g .box) in
       let m = lows-inside (g .box) proper in
       let a = low-is f (g .box) l m (λ d n. omega (arith, k l m, k d n)) in
       let b = high-is f (g .box) l m (λ d n. omega (arith, k l m, k d n)) in
       le-ltb (low f (g .box) + 1) (high f (g .box)) (omega (arith, a, b))
 
-  division-passes : (op : Operation) → IsDivision op → (q : ℕ)
-      → first (operationPoints (viewOf j g) op (InRegister q) (InRegister r)) ≡ none
-  unfolding operationPoints first
-  division-passes =
-      of-division (λ op. (q : ℕ) → first (operationPoints (viewOf j g) op (InRegister q) (InRegister r)) ≡ none)
-      (λ q. rw divisor-closed) (λ q. rw (divisor-closed, no-reason-5 q))
+  remu-passes : (rd q : ℕ) → first (points (viewOf j g) (Register Remu rd q r)) ≡ none
+  unfolding points addressPoints operandPoints operationPoints sortingOf first
+  remu-passes rd q = by-test (eqb rd 0) (λ z. rw z) (λ z. rw (z, divisor-closed, no-reason-5 q))
 
   pub passes-by-0 : (op : Operation) → IsDivision op → (rd q : ℕ) → first (points (viewOf j g) (Register op rd q r)) ≡ none
-  unfolding points addressPoints operandPoints sortingOf first
-  passes-by-0 op d rd q = by-test (eqb rd 0) (λ z. rw z) (λ z. rw z (division-passes op d q))
+  passes-by-0 =
+      of-division (λ op. (rd q : ℕ) → first (points (viewOf j g) (Register op rd q r)) ≡ none)
+      (λ rd q. divu-passes (viewOf j g) rd q r divisor-closed) remu-passes
+
+  remu-unforked : (rd q : ℕ) → Unforked j g (Register Remu rd q r)
+  unfolding classOf classBy sortingOf
+  remu-unforked rd q =
+      one-class j g (Register Remu rd q r) 0 proper
+      (λ c m. by-test (eqb rd 0) (λ z. rw z) (λ z. rw z (class-by-0 _ _ (zero c m))))
 
   pub unforked-by-0 : (op : Operation) → IsDivision op → (rd q : ℕ) → Unforked j g (Register op rd q r)
-  unfolding classOf classBy sortingOf
-  unforked-by-0 op d rd q =
-      one-class j g (Register op rd q r) 0 proper
-      (λ c m. by-test (eqb rd 0) (λ z. rw z) (λ z. rw z (class-by-0 op d _ _ (zero c m))))
+  unforked-by-0 =
+      of-division (λ op. (rd q : ℕ) → Unforked j g (Register op rd q r))
+      (λ rd q. divu-unforked j g proper rd q r) remu-unforked
 
   -- the result of DIVU is fixed at MAX
   pub quotient-fixed : (q : ℕ) → let f : State → ℕ = λ s. operate Divu (reg q s) (reg r s) in

@@ -6,8 +6,8 @@
 --     Followed        what the ending order says of a group that goes on
 --     Unforked        one class on a group's box: no fork
 --     Itself          one register named twice: SUB, SLTU and BEQ go on
---     ByZero          a fixed divisor 0: DIVU and REMU go on
 --     ByNumber        MUL and DIVU by a fixed number, whichever it is
+--     ByZero          a fixed divisor 0: DIVU and REMU go on
 --     Corner          the corners decide the ending order and the pieces
 --     Needs           the entries that a step takes, by the corners
 --     Moves           induction along the moves; every waiting group has smooth steps behind it
@@ -21,8 +21,8 @@ pub mod Uniform
 pub mod Followed
 pub mod Unforked
 pub mod Itself
-pub mod ByZero
 pub mod ByNumber
+pub mod ByZero
 pub mod Corner
 pub mod Needs
 pub mod Moves

@@ -1,4 +1,4 @@
-// A guess at where a class changes, from the two corners alone. Any guess is right: a good one makes the cut two or three probes.
+// A guess at where a class changes, from the two corners alone. Any guess is right: a good one makes the cut two probes.
 use listing::Sorting;
 use listing::operand_value;
 use listing::sorting_of;
@@ -42,7 +42,8 @@ fn distance(a: u64, b: u64) -> u64 {
     if a < b { sub(b, a) } else { sub(a, b) }
 }
 
-// 128 bits divided by a word above the high half: long division, where each bit of the quotient takes the place of one of the low half.
+// 128 bits divided by a word greater than the high half: long division, where each bit of the quotient takes the place of one of the
+// low half.
 fn wide_quotient(high: u64, low: u64, c: u64) -> u64 {
     if high == 0 {
         return quotient(low, c);
@@ -64,29 +65,52 @@ fn wide_quotient(high: u64, low: u64, c: u64) -> u64 {
 }
 
 // Whether the quotients of lo and hi by c are this far apart.
-fn divides(c: u64, width: u64, lo: u64, hi: u64) -> bool {
+fn fits(c: u64, width: u64, lo: u64, hi: u64) -> bool {
     sub(quotient(hi, c), quotient(lo, c)) == width
 }
 
-// The first input whose quotient by c is so far above that of lo.
-fn risen(c: u64, far: u64, lo: u64) -> u64 {
-    let p = product(add(quotient(lo, c), far), c);
-    p.low
+fn is_multiple(x: u64, c: u64) -> bool {
+    let p = product(quotient(x, c), c);
+    p.low == x
 }
 
-// Where an operand has gone so far, if it goes by its width while the input goes from lo to hi: it is taken for a quotient of the
-// input, give or take a number, if a divisor fits both ends, and otherwise for a straight line.
+// Whether lo is the first value and hi the last one that some quotients by c have.
+fn is_whole(c: u64, lo: u64, hi: u64) -> bool {
+    is_multiple(lo, c) & is_multiple(add(hi, 1), c)
+}
+
+// The number by which the input is divided, if the operand is its quotient plus or minus a constant; 1 also if it is the input rounded
+// down; 0 if nothing fits both ends.
+fn divisor(width: u64, lo: u64, hi: u64) -> u64 {
+    let input = sub(hi, lo);
+    let stay = add(quotient(sub(input, width), add(width, 1)), 1);
+    if fits(stay, width, lo, hi) & is_whole(stay, lo, hi) {
+        return stay;
+    }
+    let c = quotient(input, width);
+    if fits(c, width, lo, hi) {
+        return c;
+    }
+    if fits(add(c, 1), width, lo, hi) {
+        return add(c, 1);
+    }
+    if is_whole(sub(add(input, 1), width), lo, hi) {
+        1
+    } else {
+        0
+    }
+}
+
+// Where an operand has gone so far, if it goes by its width while the input goes from lo to hi: a quotient, or else a straight line.
 fn reached(far: u64, width: u64, lo: u64, hi: u64) -> u64 {
-    let c = quotient(sub(hi, lo), width);
-    if divides(c, width, lo, hi) {
-        return risen(c, far, lo);
+    let c = divisor(width, lo, hi);
+    if c == 0 {
+        let p = product(far, sub(hi, lo));
+        add(lo, wide_quotient(p.high, p.low, width))
+    } else {
+        let p = product(add(quotient(lo, c), far), c);
+        p.low
     }
-    let d = add(c, 1);
-    if divides(d, width, lo, hi) {
-        return risen(d, far, lo);
-    }
-    let p = product(far, sub(hi, lo));
-    add(lo, wide_quotient(p.high, p.low, width))
 }
 
 // Where the operand, which goes from low to high, passes its border.
@@ -123,8 +147,8 @@ fn branch_hint(a: u64, a_high: u64, b: u64, b_high: u64, lo: u64, hi: u64) -> u6
     }
 }
 
-// A guess at the values of the input, from lo to hi, between which the class that lo has at an instruction ends: the lower or the upper
-// of the two. Which word it is, is free.
+// A guess at where the class that lo has at an instruction ends, from lo to hi: the last value that has it, or the next. Which word it
+// is, is free.
 pub fn hint(i: Instruction, low: &Registers, high: &Registers, lo: u64, hi: u64) -> u64
     ensures free { λ r. ⌜ r < 2 ^ 64 ⌝ }
 {

@@ -33,7 +33,7 @@ fn probe(
     class_of(i, registers)
 }
 
-// A point strictly between a and b: the hint at first, then points that move away from it by eight times as much each, later the middle.
+// A point strictly between a and b: the hint at first, then points that are 1, 8, 64 and so on away from it, later the middle.
 fn guess(a: u64, b: u64, hint: u64, turn: usize) -> u64
     requires { ⌜ a + 1 < b ⌝ }
     ensures { λ r. ⌜ (a < r) × (r < b) × (7 ≤ turn → (2 * (r - a) ≤ b - a + 1) × (2 * (b - r) ≤ b - a + 1)) ⌝ }

@@ -34,7 +34,7 @@ unfoldable pub after : Job → ℕ → Choice → State
 after j n c = run (j .code) c n (start (j .memory))
 
 -- What a fork rule sorts by: the wrap of a sum or a difference, the quotient of MUL and REMU, the outcome of a comparison. DIVU never
--- forks, nor does REMU by 0 (document 02, No. 3).
+-- forks (document 02, No. 5), nor does REMU by 0 (No. 3).
 unfoldable pub sortOf : Operation → ℕ → ℕ → ℕ
 sortOf Add a b = (a + b) / size
 sortOf Sub a b = cond (ltb a b) 1 0

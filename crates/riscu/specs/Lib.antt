@@ -4,7 +4,7 @@
 --     Machine     the plain machine
 --     Limits      how much code and memory it has
 --     Table       the instruction table as the code holds it
---     Powers      the powers of two, as the code holds them too, and the search of a list
+--     Powers      which power of two a word is, the code's table of them, and the search of a list
 --     Parts       a state as the code holds it
 --     Whole       what every state keeps
 --     Lent        a list that is lent to a function, in its contract

@@ -1,5 +1,5 @@
 -- Which power of two a word is, the powers as the code's table holds them, and the search of a list. No rule asks for a power since
--- document 02, No. 5: they stay for No. 9, where a shift by w is a product with 2^w, and nothing else uses them.
+-- document 02, No. 5: the table stays for No. 9, where a shift by w is a product with 2^w, and nothing else uses it.
 use Prim.Native.Nat.{ℕ, zero, suc, _^_}
 use mathlib.Core.Bool.{cond}
 use mathlib.Core.List.{List, [], _∷_}

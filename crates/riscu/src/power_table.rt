@@ -1,5 +1,5 @@
 // The powers of two that are machine words. No rule asks for a power since document 02, No. 5: the table stays for No. 9, where a shift
-// by w is a product with 2^w, and nothing else uses it.
+// by w is a product with 2^w. Until then `power_of` alone reads it, which nothing calls.
 ghost use mathlib.Core.Path.{_≡_};
 ghost use Rattle.riscu.specs.Powers.{powersFrom};
 

@@ -120,7 +120,8 @@ fn place_of(n: u64, list: &[u64]) -> usize
 // The compiler unrolls loops as short as this whole, and then builds no table at run time.
 const CHUNK: usize = 8;
 
-// The place of n in the table is its exponent. The table is searched in chunks.
+// The place of n in the table is its exponent. The table is searched in chunks. Nothing calls it since document 02, No. 5:
+// it stays with its table.
 pub fn power_of(n: u64) -> Exponent
     ensures { λ r. ⌜ r ≡ powerOf n ⌝ }
 {
