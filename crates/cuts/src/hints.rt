@@ -74,7 +74,7 @@ fn is_multiple(x: u64, c: u64) -> bool {
     p.low == x
 }
 
-// Whether lo is the first value and hi the last one that some quotients by c have.
+// Whether lo begins a quotient by c, and hi ends one.
 fn is_whole(c: u64, lo: u64, hi: u64) -> bool {
     is_multiple(lo, c) & is_multiple(add(hi, 1), c)
 }
@@ -83,10 +83,12 @@ fn is_whole(c: u64, lo: u64, hi: u64) -> bool {
 // down; 0 if nothing fits both ends.
 fn divisor(width: u64, lo: u64, hi: u64) -> u64 {
     let input = sub(hi, lo);
+    // where lo begins a quotient and hi ends one, each quotient has so many inputs
     let stay = add(quotient(sub(input, width), add(width, 1)), 1);
     if fits(stay, width, lo, hi) & is_whole(stay, lo, hi) {
         return stay;
     }
+    // any other divisor is near the ratio of the widths
     let c = quotient(input, width);
     if fits(c, width, lo, hi) {
         return c;
@@ -94,6 +96,7 @@ fn divisor(width: u64, lo: u64, hi: u64) -> u64 {
     if fits(add(c, 1), width, lo, hi) {
         return add(c, 1);
     }
+    // where lo begins a step and hi ends one, the input rounded down has steps of this size
     if is_whole(sub(add(input, 1), width), lo, hi) {
         1
     } else {
