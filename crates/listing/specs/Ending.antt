@@ -1,7 +1,7 @@
 -- How a path ends: document 01's ten points, in its order. The first that applies decides, with the first reason named there.
 -- Point 8 is as document 02, No. 1, has it: with one open register twice SUB, SLTU and BEQ go on; ADD and MUL do not.
--- They are as Nos. 3 and 5 have them too: DIVU by a fixed number, 0 included, and REMU by 0 end at neither of the points 7 and 8, and
--- MUL by a fixed number ends there with reason 5 alone.
+-- Points 7 and 8 are as Nos. 3 and 5 have them: DIVU by a fixed number, 0 included, and REMU by 0 end at neither of the two, and MUL by
+-- a fixed number ends there with reason 5 alone.
 use Prim.Native.Nat.{ℕ, _+_, _-_, _%_}
 use mathlib.Core.Bool.{Bool, false, cond, not, _&&_, _||_}
 use mathlib.Core.List.{List, [], _∷_, _++_}
