@@ -8,7 +8,7 @@ use native.Mathlib.Decide.{decLe}
 use mathlib.Core.Path.{subst}
 use Rattle.cuts.specs.Cutting.{Starts, Turning}
 
--- 71 probes: the hint, six that move away from it, and 64 that halve
+-- 71 probes: seven at the guesses and further and further away from them, and 64 that halve
 near-power : (w k : ℕ) → 1 < w → w ≤ 2 ^ k → 0 < k
 near-power w zero h l = absurd (omega arith)
 near-power w (suc k) h l = omega arith

@@ -1,4 +1,5 @@
 // A box in two lists: cut along an input, and with another interval for an input.
+use crate::hints::Guesses;
 use crate::probes::cut;
 use riscu::Instruction;
 use riscu::plain::Memory;
@@ -22,7 +23,7 @@ pub fn part(
     highs: &mut [u64],
     input: usize,
     class: u64,
-    hint: u64,
+    guesses: Guesses,
     steps: usize,
     i: Instruction,
 ) -> u64
@@ -44,7 +45,7 @@ pub fn part(
         lo,
         hi,
         class,
-        hint,
+        guesses,
         steps,
         i,
     );

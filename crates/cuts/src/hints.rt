@@ -1,4 +1,4 @@
-// A guess at where a class changes, from the two corners alone. Any guess is right: a good one makes the cut two probes.
+// Guesses at where a class changes, from the two corners alone. Any guess is right: a good one makes the cut two probes, or four.
 use listing::Sorting;
 use listing::operand_value;
 use listing::sorting_of;
@@ -10,6 +10,13 @@ use riscu::words::product;
 use riscu::words::quotient;
 use riscu::words::sub;
 ghost use Prim.Native.Nat.{_<_, _^_};
+
+// Where the last value of a class or the next may stand: for an operand that is a quotient or a straight line of the input, and for
+// one that is the input over a whole number or times one, rounded down.
+pub struct Guesses {
+    pub line: u64,
+    pub rounded: u64,
+}
 
 // The least value of the upper class of two, for an open operand that goes from low to high beside a fixed one.
 fn border(op: Operation, first: bool, low: u64, high: u64, other: u64) -> u64 {
@@ -116,14 +123,38 @@ fn reached(far: u64, width: u64, lo: u64, hi: u64) -> u64 {
     }
 }
 
-// Where the operand, which goes from low to high, passes its border.
-fn placed(border: u64, low: u64, high: u64, lo: u64, hi: u64) -> u64 {
-    let far = if low < high {
-        sub(border, low)
+// How often a width goes into a wider one, to the nearest number.
+fn ratio(wide: u64, width: u64) -> u64 {
+    add(quotient(add(sub(wide, width), width / 2), width), 1)
+}
+
+// Where an operand that rises by its width, while the input rises by another, reaches a border that is one of its values, if it is
+// the input over a whole number or times one, rounded down: where it would without the rounding.
+fn rounded(border: u64, width: u64, input: u64) -> u64 {
+    if width < input {
+        let p = product(border, ratio(input, width));
+        p.low
     } else {
-        add(sub(low, border), 1)
-    };
-    reached(far, distance(low, high), lo, hi)
+        quotient(border, ratio(width, input))
+    }
+}
+
+// Where the operand, which goes from low to high, passes its border. Where it falls, nothing tells of a rounding.
+fn placed(border: u64, low: u64, high: u64, lo: u64, hi: u64) -> Guesses {
+    let width = distance(low, high);
+    if low < high {
+        let line = reached(sub(border, low), width, lo, hi);
+        Guesses {
+            line,
+            rounded: rounded(border, width, sub(hi, lo)),
+        }
+    } else {
+        let line = reached(add(sub(low, border), 1), width, lo, hi);
+        Guesses {
+            line,
+            rounded: line,
+        }
+    }
 }
 
 fn operation_hint(
@@ -134,7 +165,7 @@ fn operation_hint(
     b_high: u64,
     lo: u64,
     hi: u64,
-) -> u64 {
+) -> Guesses {
     if a == a_high {
         placed(border(op, false, b, b_high, a), b, b_high, lo, hi)
     } else {
@@ -142,7 +173,7 @@ fn operation_hint(
     }
 }
 
-fn branch_hint(a: u64, a_high: u64, b: u64, b_high: u64, lo: u64, hi: u64) -> u64 {
+fn branch_hint(a: u64, a_high: u64, b: u64, b_high: u64, lo: u64, hi: u64) -> Guesses {
     if a == a_high {
         placed(branch_border(b, b_high, a), b, b_high, lo, hi)
     } else {
@@ -150,10 +181,10 @@ fn branch_hint(a: u64, a_high: u64, b: u64, b_high: u64, lo: u64, hi: u64) -> u6
     }
 }
 
-// A guess at where the class that lo has at an instruction ends, from lo to hi: the last value that has it, or the next. Which word it
-// is, is free.
-pub fn hint(i: Instruction, low: &Registers, high: &Registers, lo: u64, hi: u64) -> u64
-    ensures free { λ r. ⌜ r < 2 ^ 64 ⌝ }
+// Guesses at where the class that lo has at an instruction ends, from lo to hi: the last value that has it, or the next. Which words
+// they are, is free.
+pub fn hint(i: Instruction, low: &Registers, high: &Registers, lo: u64, hi: u64) -> Guesses
+    ensures free { λ r. ⌜ (r .line < 2 ^ 64) × (r .rounded < 2 ^ 64) ⌝ }
 {
     let s = sorting_of(i);
     match s {
@@ -171,6 +202,9 @@ pub fn hint(i: Instruction, low: &Registers, high: &Registers, lo: u64, hi: u64)
             let b_high = operand_value(second, high);
             branch_hint(a, a_high, b, b_high, lo, hi)
         }
-        Sorting::Nothing => lo,
+        Sorting::Nothing => Guesses {
+            line: lo,
+            rounded: lo,
+        },
     }
 }

@@ -1,4 +1,5 @@
 // Where a class changes along one input: probes, and the search for the edge.
+use crate::hints::Guesses;
 use decide::classes::class_of;
 use riscu::Instruction;
 use riscu::plain::Memory;
@@ -33,36 +34,56 @@ fn probe(
     class_of(i, registers)
 }
 
-// A point strictly between a and b: the hint at first, then points that are 1, 8, 64 and so on away from it, later the middle.
-fn guess(a: u64, b: u64, hint: u64, turn: usize) -> u64
+// A point, if it stands strictly between a and b, and otherwise the value so far from the end that it is beyond; of a short interval
+// the middle.
+fn toward(a: u64, b: u64, point: u64, away: u64) -> u64
+    requires { ⌜ (a + 1 < b) × (0 < away) ⌝ }
+    ensures free { λ r. ⌜ (a < r) × (r < b) ⌝ }
+{
+    if b - a <= away {
+        return a + (b - a) / 2;
+    }
+    if point <= a {
+        return a + away;
+    }
+    if b <= point { b - away } else { point }
+}
+
+// How far a turn goes from what was tried before.
+fn away(turn: usize) -> u64
+    ensures free { λ r. ⌜ 0 < r ⌝ }
+{
+    if turn < 3 {
+        8
+    } else if turn < 5 {
+        64
+    } else if turn < 6 {
+        512
+    } else {
+        4096
+    }
+}
+
+// A point strictly between a and b: the two guesses and their neighbours, then points further and further away, later the middle.
+fn guess(a: u64, b: u64, guesses: Guesses, turn: usize) -> u64
     requires { ⌜ a + 1 < b ⌝ }
     ensures { λ r. ⌜ (a < r) × (r < b) × (7 ≤ turn → (2 * (r - a) ≤ b - a + 1) × (2 * (b - r) ≤ b - a + 1)) ⌝ }
 {
-    let middle = a + (b - a) / 2;
     if 7 <= turn {
-        return middle;
+        return a + (b - a) / 2;
     }
-    if turn == 0 {
-        if hint <= a {
-            return a + 1;
-        }
-        if b <= hint {
-            return b - 1;
-        }
-        return hint;
+    if turn < 2 {
+        return toward(a, b, guesses.line, 1);
     }
-    let away = 1u64 << (3 * (turn - 1));
-    if b - a <= away {
-        return middle;
+    if (turn < 4) & (a <= guesses.rounded) & (guesses.rounded <= b) {
+        return toward(a, b, guesses.rounded, 1);
     }
-    if away == 0 {
-        return middle;
-    }
-    if hint <= a { a + away } else { b - away }
+    toward(a, b, guesses.line, away(turn))
 }
 
-// The last value of an input, from lo to below hi, whose class is that of lo, where one above it is not: at most 71 probes, and two
-// where the hint is that value or the next. Registers and scratch are lent to run in, and what is left in them is free.
+// The last value of an input, from lo to below hi, whose class is that of lo, where one above it is not: at most 71 probes; two where
+// the first guess is that value or the next, and four where the second is. Registers and scratch are lent to run in, and what is left
+// in them is free.
 pub(crate) fn cut(
     code: &[u32],
     memory: &Memory,
@@ -73,7 +94,7 @@ pub(crate) fn cut(
     lo: u64,
     hi: u64,
     class: u64,
-    hint: u64,
+    guesses: Guesses,
     n: usize,
     i: Instruction,
 ) -> u64
@@ -86,7 +107,7 @@ pub(crate) fn cut(
     let mut b = hi;
     let mut turn: usize = 0;
     while 1 < b - a {
-        let x = guess(a, b, hint, turn);
+        let x = guess(a, b, guesses, turn);
         let c = probe(code, memory, registers, scratch, choice, input, x, n, i);
         if c == class {
             a = x;

@@ -55,7 +55,7 @@ pub(crate) fn fork_on(
     let class = class_of(i, low);
     let lo = lows[input];
     let hi = highs[input];
-    let guess = hint(i, low, high, lo, hi);
+    let guesses = hint(i, low, high, lo, hi);
     let edge = part(
         code,
         memory,
@@ -65,7 +65,7 @@ pub(crate) fn fork_on(
         highs,
         input,
         class,
-        guess,
+        guesses,
         s.steps,
         i,
     );
@@ -129,7 +129,7 @@ fn take_rest(
     }
     let lo = lows[input];
     let hi = highs[input];
-    let guess = hint(i, low, high, lo, hi);
+    let guesses = hint(i, low, high, lo, hi);
     let edge = part(
         code,
         memory,
@@ -139,7 +139,7 @@ fn take_rest(
         highs,
         input,
         a,
-        guess,
+        guesses,
         steps,
         i,
     );

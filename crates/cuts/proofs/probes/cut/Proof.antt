@@ -12,10 +12,10 @@ use Rattle.cuts.proofs.probes.cut.Statement.{statement}
 use Rattle.cuts.proofs.probes.cut.Tie as tie
 
 abbrev Inv-loop : tie.InvT-loop
-Inv-loop code memory registers₀ scratch₀ choice₀ input lo hi class hint n i a₀ b₀ turn₀ registers scratch choice a b turn = (choice ≡ choice₀) × Narrowed (probed code memory n i choice₀ input) class lo hi a b turn
+Inv-loop code memory registers₀ scratch₀ choice₀ input lo hi class guesses n i a₀ b₀ turn₀ registers scratch choice a b turn = (choice ≡ choice₀) × Narrowed (probed code memory n i choice₀ input) class lo hi a b turn
 
 abbrev μ-loop : tie.MeasureT-loop
-μ-loop code memory registers₀ scratch₀ choice₀ input lo hi class hint n i a₀ b₀ turn₀ registers scratch choice a b turn = 71 - turn
+μ-loop code memory registers₀ scratch₀ choice₀ input lo hi class guesses n i a₀ b₀ turn₀ registers scratch choice a b turn = 71 - turn
 
 loop-holds : tie.Need-loop-holds Inv-loop μ-loop
 loop-holds c = (refl, begins _ _ _ _ (c .before .before .pre .1))
