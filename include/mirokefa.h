@@ -26,6 +26,7 @@ extern "C" {
 #define MIROKEFA_PATH_BYTES(inputs) 1024 /* bytes of a path in the report, by the input count: two blocks for up to 8 */
 #define MIROKEFA_PATH_NUMBERS (UINT64_C(1) << 32) /* the first path wanted is below this */
 #define MIROKEFA_MOST_ROWS 1024         /* a call places 0 to so many rows */
+#define MIROKEFA_LINE_BYTES 73          /* bytes of a line on a sheet: 72 columns and a line feed */
 
 /* The table and the page of the course's program; a larger table follows longer paths. */
 #define MIROKEFA_USUAL_TABLE_WORDS 8192
@@ -35,7 +36,8 @@ extern "C" {
 
 /* The first question with the answer no decides. mirokefa_explore asks 1 to 8 in this order;
  * mirokefa_serve asks 9, 10, 1, 2, 3, 4, 6, 8 and 11 of the job, and then 7; mirokefa_place asks 12
- * and then 13. A refused call reports no path and changes nothing lent. */
+ * and then 13, mirokefa_sheet 12 and then 14. A refused call reports no path and changes nothing
+ * lent. */
 enum mirokefa_refusal {
     MIROKEFA_ACCEPTED = 0,
     MIROKEFA_REFUSED_CODE = 1,      /* the code is not 1 to 1,024 words */
@@ -51,7 +53,8 @@ enum mirokefa_refusal {
     MIROKEFA_REFUSED_FORM = 11,     /* word 0 of the job is not 1, its blocks are too few or too many, or an unused word is not 0 */
     MIROKEFA_REFUSED_RECORDS = 12,  /* the input count is not 1 to 8, the report is not whole records of that count, a record has another
                                        count, or the check of a block does not agree */
-    MIROKEFA_REFUSED_ROWS = 13      /* the rows are not whole or more than 1,024, or there is not one answer for each */
+    MIROKEFA_REFUSED_ROWS = 13,     /* the rows are not whole or more than 1,024, or there is not one answer for each */
+    MIROKEFA_REFUSED_SHEET = 14     /* the sheet is shorter than its text */
 };
 
 /* ---- How a path ends ---- */
@@ -162,6 +165,25 @@ uint64_t mirokefa_place(
     const uint8_t *report, size_t report_bytes,
     const uint64_t *rows, size_t row_words,
     uint64_t *answers, size_t answer_words);
+
+/* How many bytes the sheet of a report takes, from the input count of its paths and the report's length alone: a line of
+ * MIROKEFA_LINE_BYTES for each path, and one for each of its inputs. SIZE_MAX if that is no size_t; no sheet has that length. */
+size_t mirokefa_sheet_bytes(uint64_t inputs, size_t report_bytes);
+
+/* Prints a report. Returns 0; or the number of a refusal, and then writes nothing. Parts are lent as for mirokefa_explore.
+ *
+ * inputs     how many inputs the report's paths have, 1 to 8.
+ * report     a page without its unused bytes, as for mirokefa_place. Read only.
+ * sheet      room for the text, mirokefa_sheet_bytes(inputs, report_bytes) or more; bytes behind the text stay as lent. It
+ *            overlaps nothing else lent.
+ *
+ * Each path is a line with its number, kind and reason (0 unless the kind is 8), and then for each input, numbered from 0, a line
+ * with this number, low and high. Each number is right-aligned in 20 columns, from columns 1, 24 and 48 on, counted from 1. The
+ * other columns are spaces; a line has 72 of them and a line feed. The text does not end with a zero byte. */
+uint64_t mirokefa_sheet(
+    uint64_t inputs,
+    const uint8_t *report, size_t report_bytes,
+    uint8_t *sheet, size_t sheet_bytes);
 
 #ifdef __cplusplus
 }

@@ -34,6 +34,16 @@ extern "C" {
         answers: *mut u64,
         answer_words: usize,
     ) -> u64;
+
+    fn mirokefa_sheet_bytes(inputs: u64, report_bytes: usize) -> usize;
+
+    fn mirokefa_sheet(
+        inputs: u64,
+        report: *const u8,
+        report_bytes: usize,
+        sheet: *mut u8,
+        sheet_bytes: usize,
+    ) -> u64;
 }
 
 pub fn explore(
@@ -76,6 +86,26 @@ pub fn place(inputs: u64, report: &[u8], rows: &[u64], answers: &mut [u64]) -> u
             rows.len(),
             answers.as_mut_ptr(),
             answers.len(),
+        )
+    }
+}
+
+/// The bytes of a report's sheet, or `usize::MAX` if they are too many for a `usize`.
+pub fn sheet_bytes(inputs: u64, report_bytes: usize) -> usize {
+    // SAFETY: it is given numbers alone
+    unsafe { mirokefa_sheet_bytes(inputs, report_bytes) }
+}
+
+/// 0, or the number of a refusal.
+pub fn sheet(inputs: u64, report: &[u8], sheet: &mut [u8]) -> u64 {
+    // SAFETY: as for explore
+    unsafe {
+        mirokefa_sheet(
+            inputs,
+            report.as_ptr(),
+            report.len(),
+            sheet.as_mut_ptr(),
+            sheet.len(),
         )
     }
 }

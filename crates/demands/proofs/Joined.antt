@@ -58,7 +58,7 @@ module _ (memory : List ℕ) (words : ℕ) (c : Call) where
       unfolding replyBy more
       more-is = rw (f .reply-is, same-job s)
 
-      bytes-are : bytesWritten x ≡ records (x .call .first) ps
+      pub bytes-are : bytesWritten x ≡ records (x .call .first) ps
       unfolding replyBy
       bytes-are =
           let r : x .left .reply .report ≡ records (x .call .first) ps ++ drop (recordBytes (inputsOf (x .call)) * length ps) (x .call .report) =

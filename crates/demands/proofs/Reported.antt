@@ -1,6 +1,6 @@
 -- What an accepted call writes: demand 2 of its report's bytes.
 -- Assumes nothing.
-use mathlib.Core.Path.{_≡_, refl}
+use mathlib.Core.Path.{_≡_, refl, _∙_}
 use mathlib.Core.List.{List, _++_}
 use mathlib.Core.Option.{none}
 use Prim.Native.Nat.{ℕ, _+_, _-_, _*_, _^_, _≤_, _<_, min}
@@ -14,12 +14,12 @@ use Rattle.listing.specs.Group.{Job}
 use Rattle.listing.specs.Listing.{Path, listing}
 use Rattle.blocks.specs.Record.{mostInputs, recordBytes, recordOf, records}
 use Rattle.blocks.specs.Report.{recordsIn, recordAt}
-use Rattle.blocks.proofs.Reading.{records-length, records-at, record-tells}
+use Rattle.blocks.proofs.Reading.{Fits, records-length, records-at, record-tells}
 use Rattle.calls.specs.Call.{Call, inputsOf, Below, Typed, written, more, asks, refusalOf, jobOf, page, replyBy, replyTo}
 use Rattle.calls.specs.Limits.{firstEnd}
 use Rattle.calls.specs.Reported.{Told, Reported}
 use Rattle.calls.specs.declared.Refusal.the-variants.{First}
-use Rattle.demands.proofs.Accepted.{accepted-yes, accepted-sound, job-inputs, paths-fit}
+use Rattle.demands.proofs.Accepted.{accepted-yes, accepted-sound, job-inputs, inputs-counted, path-inputs, paths-fit}
 use Rattle.demands.proofs.Faithful.{listing-faithful}
 use Rattle.demands.proofs.Words.{path-fits}
 use Rattle.corners.specs.Good.{Sound}
@@ -52,14 +52,26 @@ module _ (memory : List ℕ) (words : ℕ) (c : Call) (bounded : Below (2 ^ 64) 
   unfolding jobOf
   limit-word = typed .limit
 
+  -- the numbers of its paths are words, and so is all that their records hold
+  pub page-few : c .first + length ps ≤ 2 ^ 64
+  unfolding asks
+  page-few =
+      let first = ltb-true (c .first) firstEnd (accepted-yes memory words c e First) in
+      omega (arith, page-length, typed .bytes)
+
+  pub page-fits : (p : Path) → p ∈ ps → (k : ℕ) → k < 2 ^ 64 → Fits k p
+  page-fits p m = path-fits j sound limit-word p (page-mem p m) (job-inputs memory words c e)
+
+  pub page-inputs : (p : Path) → p ∈ ps → length (p .box) ≡ inputsOf c
+  page-inputs p m = path-inputs j sound p (page-mem p m) ∙ inputs-counted memory words c e
+
   told : (i : ℕ) → i < length ps → Told j (c .first + i) (recordAt (inputsOf c) (records (c .first) ps ++ drop (recordBytes (inputsOf c) * length ps) (c .report)) i)
-  unfolding page asks
+  unfolding page
   told i l =
       let (p, z) = place-exists ps i l in
       let m = place-mem ps i z in
       let q = page-mem p m in
-      let first = ltb-true (c .first) firstEnd (accepted-yes memory words c e First) in
-      let n : c .first + i < 2 ^ 64 = omega (arith, page-length, typed .bytes) in
+      let n : c .first + i < 2 ^ 64 = omega (arith, page-few) in
       let r : recordAt (inputsOf c) (records (c .first) ps ++ drop (recordBytes (inputsOf c) * length ps) (c .report)) i ≡ recordOf (c .first + i) p =
       rw (
         drop-append-le (recordBytes (inputsOf c) * i) (records (c .first) ps) (drop (recordBytes (inputsOf c) * length ps) (c .report)) (omega (arith, bytes-length)),
@@ -70,7 +82,7 @@ module _ (memory : List ℕ) (words : ℕ) (c : Call) (bounded : Below (2 ^ 64) 
       record {
         path = p;
         listed = place-drop (c .first) (listing j) i (place-take (recordsIn (inputsOf c) (c .report)) (drop (c .first) (listing j)) i z);
-        tells = rw r (record-tells (c .first + i) p (path-fits j sound limit-word p q (job-inputs memory words c e) (c .first + i) n));
+        tells = rw r (record-tells (c .first + i) p (page-fits p m (c .first + i) n));
         faithful = listing-faithful j sound p q;
       }
 

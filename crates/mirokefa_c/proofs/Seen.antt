@@ -20,6 +20,10 @@ use Rattle.reports.specs.Placing.{PlaceCall, placeAsks, placeQuestions, placeNu
 use Rattle.reports.specs.declared.PlaceRefusal.{PlaceRefusal}
 use Rattle.reports.proofs.Numbers.{placed-numbers}
 use Rattle.reports.proofs.Promises.{places}
+use Rattle.sheets.specs.Sheet.{SheetCall, sheetAsks, sheetQuestions, sheetNumber, printed, sheetAnswerNumber}
+use Rattle.sheets.specs.declared.SheetRefusal.{SheetRefusal}
+use Rattle.sheets.proofs.Numbers.{sheet-numbers}
+use Rattle.sheets.proofs.Promises.{prints-sheet}
 use Rattle.serving.specs.Served.{served, outcomeOf}
 use Rattle.serving.specs.Server.{serverQuestions, serverAsks}
 use Rattle.serving.specs.declared.Served.{Served}
@@ -55,3 +59,11 @@ module _ (c : PlaceCall) where
 
   pub place-refused : (r : PlaceRefusal) → (answerNumber (placed c .answer) ≡ placeNumber r) ↔ FirstNo (placeAsks c) placeQuestions r
   place-refused r = Iff·trans (placed-numbers (placed c .answer) .refused r) (places c .refused r)
+
+-- of `mirokefa_sheet`
+module _ (c : SheetCall) where
+  pub sheet-accepted : (sheetAnswerNumber (printed c .answer) ≡ 0) ↔ ((q : SheetRefusal) → sheetAsks c q ≡ true)
+  sheet-accepted = Iff·trans (sheet-numbers (printed c .answer) .accepted) (prints-sheet c .accepted)
+
+  pub sheet-refused : (r : SheetRefusal) → (sheetAnswerNumber (printed c .answer) ≡ sheetNumber r) ↔ FirstNo (sheetAsks c) sheetQuestions r
+  sheet-refused r = Iff·trans (sheet-numbers (printed c .answer) .refused r) (prints-sheet c .refused r)

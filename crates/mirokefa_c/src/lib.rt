@@ -1,4 +1,4 @@
-// The functions for C: the exploration of a lent job, the server's call on job blocks, and rows placed in a report, as `extern "C"` with the answer in numbers.
+// The functions for C: the exploration of a lent job, the server's call on job blocks, rows placed in a report, and a report printed, as `extern "C"` with the answer in numbers.
 // Each slice comes as a pointer and its length in elements.
 // The archive of this crate, libmirokefa_c.a, is what include/mirokefa.h declares.
 use calls::Outcome;
@@ -8,10 +8,16 @@ use reports::answer_number;
 use reports::placing::place;
 use serving::outcome;
 use serving::serve;
+use sheets::asking::sheet_bytes;
+use sheets::sheet::print_sheet;
+use sheets::sheet_answer_number;
 ghost use mathlib.Core.Path.{_≡_};
+ghost use Prim.Native.Nat.{min};
 ghost use Rattle.calls.specs.Border.{replyOf, callLent, calledOn};
 ghost use Rattle.reports.specs.Placing.{answerNumber, placedOn};
+ghost use Rattle.riscu.specs.Word.{maxWord};
 ghost use Rattle.serving.specs.Served.{outcomeOf, servedOn};
+ghost use Rattle.sheets.specs.Sheet.{sheetLength, sheetAnswerNumber, printedOn};
 
 // Explores a job and writes a page of its paths, or refuses the call.
 #[no_mangle]
@@ -55,4 +61,22 @@ pub extern "C" fn mirokefa_place(
 {
     let a = place(inputs, report, rows, answers);
     answer_number(a)
+}
+
+// The length of a report's sheet, or MAX if it is no word.
+#[no_mangle]
+pub extern "C" fn mirokefa_sheet_bytes(inputs: u64, report_bytes: usize) -> usize
+    ensures { λ r. ⌜ r ≡ min (sheetLength inputs «report_bytes») maxWord ⌝ }
+{
+    sheet_bytes(inputs, report_bytes)
+}
+
+// A report printed on a sheet.
+#[no_mangle]
+pub extern "C" fn mirokefa_sheet(inputs: u64, report: &[u8], sheet: &mut [u8]) -> u64
+    ensures answer { λ r. ⌜ r ≡ sheetAnswerNumber (printedOn inputs report sheet .answer) ⌝ }
+    ensures bytes { λ r. ⌜ now (sheet .exit) ≡ printedOn inputs report sheet .sheet ⌝ }
+{
+    let a = print_sheet(inputs, report, sheet);
+    sheet_answer_number(a)
 }

@@ -69,6 +69,13 @@ digits-more : (n : ℕ) → 10 ≤ n → n < 2 ^ 64 → digits n ≡ digits (n /
 unfolding digits
 digits-more n h l = more-in 19 n h ∙ ap (λ (ds : List ℕ). ds ++ (digit (n % 10) ∷ [])) (digits-in 18 (n / 10) (omega arith))
 
+-- how many there are
+pub one-digit : (n : ℕ) → n < 10 → length (digits n) ≡ 1
+one-digit n h = rw (digits-one n h)
+
+pub tenth-digits : (n : ℕ) → 10 ≤ n → n < 2 ^ 64 → length (digits n) ≡ length (digits (n / 10)) + 1
+tenth-digits n h l = rw (digits-more n h l, length-append)
+
 -- a number's last digit, behind the others
 module _ (s : Output) (n : ℕ) where
   pub last-digit : {t u : Output} → 10 ≤ n → n < 2 ^ 64 → t ≡ write s (digits (n / 10)) → u ≡ push t (digit (n % 10)) → u ≡ write s (digits n)

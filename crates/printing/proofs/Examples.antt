@@ -11,7 +11,7 @@ use Rattle.listing.specs.declared.Reason.the-variants.{Quotients}
 use Rattle.listing.specs.declared.End.{End}
 use Rattle.listing.specs.declared.End.the-variants.{Exit, NotFollowed, TraceFull}
 use Rattle.printing.specs.Printed.{ascii, digitsIn, digits, field, range, turnedAway, firstLine, lineWith}
-use Rattle.printing.specs.Shown.{inputOf, endingOf, lineOf, linesOf, listingOf}
+use Rattle.printing.specs.Shown.{inputOf, endingOf, lineOf, numbered, listingOf}
 
 -- a path with this value in register 10
 abbrev path : End → ℕ → ℕ → Box → Interval → Path
@@ -23,18 +23,18 @@ jobA = path Exit 28 7 ((0 ⋯ 9) ∷ []) (1 ⋯ 1) ∷ path Exit 28 7 ((10 ⋯ 2
 
 job-a : listingOf 0 jobA false
     ≡ ascii "paths 2 more 0\npath 0 end 1 at 28 steps 7 in 0..9 exit 1..1\npath 1 end 1 at 28 steps 7 in 10..255 exit 0..0\n"
-unfolding listingOf linesOf lineOf lineWith firstLine field range digits digitsIn inputOf endingOf flatMap
+unfolding listingOf numbered lineOf lineWith firstLine field range digits digitsIn inputOf endingOf flatMap
 job-a = refl
 
 -- a further page, from path 64 on, that is empty
 no-path : listingOf 64 [] false ≡ ascii "paths 0 more 0\n"
-unfolding listingOf linesOf firstLine field digits digitsIn
+unfolding listingOf numbered firstLine field digits digitsIn
 no-path = refl
 
 -- two inputs, the reason of kind 8; `more` is 1 for yes
 a-reason : listingOf 3 (path (NotFollowed Quotients) 20 5 ((0 ⋯ (2 ^ 64 - 1)) ∷ (7 ⋯ 7) ∷ []) (8 ⋯ 8) ∷ []) true
     ≡ ascii "paths 1 more 1\npath 3 end 8 at 20 steps 5 in 0..18446744073709551615 in 7..7 reason 5\n"
-unfolding listingOf linesOf lineOf lineWith firstLine field range digits digitsIn inputOf endingOf flatMap
+unfolding listingOf numbered lineOf lineWith firstLine field range digits digitsIn inputOf endingOf flatMap
 a-reason = refl
 
 -- no input and neither exit nor reason

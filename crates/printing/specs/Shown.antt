@@ -28,10 +28,10 @@ endingOf TraceFull v = []
 unfoldable pub lineOf : ℕ → Path → List ℕ
 lineOf n p = lineWith n (kindNumber (p .end)) (p .pc) (p .steps) (flatMap inputOf (p .box)) (endingOf (p .end) (registerOf p 10))
 
--- the paths numbered from n on
-unfoldable pub linesOf : ℕ → List Path → List ℕ
-linesOf n [] = []
-linesOf n (p ∷ ps) = lineOf n p ++ linesOf (n + 1) ps
+-- the texts of a list's elements, numbered from n on
+unfoldable pub numbered : {A : Type 0} → (ℕ → A → List ℕ) → ℕ → List A → List ℕ
+numbered text n [] = []
+numbered text n (x ∷ xs) = text n x ++ numbered text (n + 1) xs
 
 unfoldable pub listingOf : ℕ → List Path → Bool → List ℕ
-listingOf n ps more = firstLine (length ps) more ++ linesOf n ps
+listingOf n ps more = firstLine (length ps) more ++ numbered lineOf n ps

@@ -12,7 +12,7 @@ ghost use Rattle.printing.specs.Printed.{turnedAway, listingText};
 ghost use Rattle.printing.specs.Output.{Prints};
 
 mod lines;
-mod writer;
+pub mod writer;
 
 // Writes `turned away N` at the start of `out`, as far as it fits, and answers how many bytes it wrote.
 pub fn print_refusal(number: u64, out: &mut [u8]) -> usize

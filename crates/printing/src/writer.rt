@@ -15,7 +15,7 @@ fn put_byte(out: &mut [u8], at: usize, b: u8) -> usize
 }
 
 // A text.
-pub(crate) fn put_text(out: &mut [u8], at: usize, text: &[u8]) -> usize
+pub fn put_text(out: &mut [u8], at: usize, text: &[u8]) -> usize
     ensures { λ r. ⌜ Writes out at r (now (text .entry)) ⌝ }
 {
     let mut p = at;
@@ -28,7 +28,7 @@ pub(crate) fn put_text(out: &mut [u8], at: usize, text: &[u8]) -> usize
 }
 
 // A number in base ten: at most 20 calls deep, since MAX has 20 digits.
-fn put_digits(out: &mut [u8], at: usize, n: u64) -> usize
+pub fn put_digits(out: &mut [u8], at: usize, n: u64) -> usize
     ensures { λ r. ⌜ Writes out at r (digits n) ⌝ }
 {
     if n < 10 {

@@ -41,7 +41,7 @@ use Rattle.reports.specs.Placed.{FirstHolds, OwnReport, OnPath, OwnPlace
 use Rattle.reports.specs.declared.PlaceRefusal.{PlaceRefusal}
 use Rattle.reports.specs.declared.PlaceRefusal.the-variants.{Records, Rows}
 use Rattle.reports.specs.declared.Placed.the-variants.{Answered}
-use Rattle.reports.proofs.Records.{countAt, counts-each}
+use Rattle.reports.proofs.Written.{Writable, report-length, report-records, tells-at, written-readable}
 use Rattle.reports.proofs.Listed.{placing-first, placing-none}
 use Rattle.reports.proofs.Promises.{places, row-answer}
 
@@ -60,32 +60,26 @@ module _ (j : Job) (able : Reportable j) where
   abbrev report : List ℕ
   report = records 0 (listing j)
 
-  fits : (p : Path) → p ∈ listing j → (length (p .box) ≤ mostInputs) × (length (p .registers) ≡ 32)
-  fits = paths-fit j (able .sound) (able .few)
-
-  report-length : length report ≡ recordBytes n * length (listing j)
-  report-length = records-length n 0 (listing j) fits
-
-  report-records : recordsIn n report ≡ length (listing j)
-  report-records = omega (arith, report-length)
+  writable : Writable n 0 (listing j)
+  writable =
+      let size = records-length n 0 (listing j) (paths-fit j (able .sound) (able .few)) in
+      record {
+        words = λ p m i l. path-fits j (able .sound) (able .limit) p m (able .few) i (omega (arith, size, able .size));
+        inputs = path-inputs j (able .sound);
+      }
 
   path-at : (i : ℕ) → i < recordsIn n report → (p : Path) × IsPath j i p
-  path-at i l = place-exists (listing j) i (omega (arith, report-records))
-
-  words : (p : Path) → p ∈ listing j → (i : ℕ) → i < length (listing j) → Fits i p
-  words p m i l = path-fits j (able .sound) (able .limit) p m (able .few) i (omega (arith, report-length, able .size))
+  path-at i l = place-exists (listing j) i (omega (arith, report-records writable))
 
   module _ (i : ℕ) (p : Path) (e : IsPath j i p) where
     in-listing : p ∈ listing j
     in-listing = place-mem (listing j) i e
 
     tells : Tells (recordAt n report i) i p
-    tells =
-        rw (records-at n 0 (listing j) fits i p e, zero-add i)
-        (record-tells i p (words p in-listing i (place-below (listing j) i e)))
+    tells = rw zero-add at (tells-at writable i p e)
 
     inputs-are : length (p .box) ≡ n
-    inputs-are = path-inputs j (able .sound) p in-listing
+    inputs-are = writable .inputs p in-listing
 
     -- its record holds the choices of its box
     holds-inside : (row : Choice) → length row ≡ n → holds n row (recordAt n report i) ≡ true → Inside row (p .box)
@@ -107,24 +101,6 @@ module _ (j : Job) (able : Reportable j) where
         let (low, high) = inside-at (p .box) row h k in
         rw (tells .low k z, tells .high k z, le-leb _ _ low, le-leb _ _ high))
 
-  -- question 12
-  counts-right : every (hasCount n) (recordsOf n report) ≡ true
-  counts-right =
-      counts-each n report
-      ∙ each-all (countAt n report) (recordsIn n report) 0
-      (λ i l m. let (p, e) = path-at i (omega arith) in eq-eqb _ _ (tells i p e .inputs ∙ inputs-are i p e))
-
-  listing-readable : readable n report ≡ true
-  unfolding readable
-  listing-readable =
-      rw (
-        le-leb _ _ (able .some-input),
-        le-leb _ _ (able .few),
-        eq-eqb (length report % recordBytes n) 0 (omega (arith, report-length)),
-        counts-right,
-        checks-records 0 (listing j) (λ p m i l. words p m i (omega arith)),
-      )
-
   complete : Complete j
   complete = listing-complete j (able .sound)
 
@@ -139,10 +115,10 @@ module _ (j : Job) (able : Reportable j) where
         let l = inside-length (j .box) row h in
         let first : FirstHolds n report row m =
         record {
-          inside = omega (arith, report-records, place-below (listing j) m e);
+          inside = omega (arith, report-records writable, place-below (listing j) m e);
           held = inside-holds m p e row i;
           not-before = λ k b.
-              let (q, f) = path-at k (omega (arith, report-records, place-below (listing j) m e)) in
+              let (q, f) = path-at k (omega (arith, report-records writable, place-below (listing j) m e)) in
               by-test (holds n row (recordAt n report k))
               (λ y. absurd (omega (arith, complete .one-path row k m q p f e (holds-inside k q f row l y) i)))
               (λ held-not. held-not);
@@ -153,7 +129,7 @@ module _ (j : Job) (able : Reportable j) where
           listed = rw z e;
           inside = i;
           only = λ k q f g. complete .one-path row k m q p f e g i ∙ sym z;
-          below = omega (arith, z, place-below (listing j) m e, report-length, able .size);
+          below = omega (arith, z, place-below (listing j) m e, report-length writable, able .size);
           faithful = listing-faithful j (able .sound) p (in-listing m p e);
         }
 
@@ -172,7 +148,7 @@ module _ (E : Engine) (meets : Meets E) {memory table : List ℕ} {xs : List Exc
   abbrev j : Job
   j = jobOf memory (length table) c
 
-  report-is : report ≡ records 0 (listing j)
+  pub report-is : report ≡ records 0 (listing j)
   report-is = own .bytes ∙ demand-3 E meets lent history .pages c (own .pages) .bytes
 
   -- one of the calls
@@ -193,9 +169,12 @@ module _ (E : Engine) (meets : Meets E) {memory table : List ℕ} {xs : List Exc
         size = rw report-is at (own .size);
       }
 
+  pub own-writable : Writable (inputsOf c) 0 (listing j)
+  own-writable = rw (sym counted) (writable j able)
+
   -- question 12 never turns such a report away
   pub own-readable : readable (inputsOf c) report ≡ true
-  own-readable = rw (report-is, sym counted) (listing-readable j able)
+  own-readable = rw report-is (written-readable own-writable (own .inputs) (omega (arith, counted, able .few)))
 
   pub own-placed : OwnPlaced memory (length table) c report
   own-placed rows answers fit =

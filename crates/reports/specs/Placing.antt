@@ -12,7 +12,7 @@ use Rattle.riscu.specs.Lent.{LentList}
 use Rattle.blocks.specs.Block.{wordAt, each}
 use Rattle.blocks.specs.Layout as layout
 use Rattle.calls.specs.Call.{firstNo}
-use Rattle.reports.specs.Readable.{recordsOf, readable}
+use Rattle.reports.specs.Readable.{recordsOf, readable, recordsNumber}
 use Rattle.reports.specs.declared.PlaceRefusal.{PlaceRefusal}
 use Rattle.reports.specs.declared.PlaceRefusal.the-variants.{Records, Rows}
 use Rattle.reports.specs.declared.Placed.{Placed}
@@ -76,7 +76,7 @@ abbrev pub placeQuestions : List PlaceRefusal
 placeQuestions = Records ∷ Rows ∷ []
 
 abbrev pub placeNumber : PlaceRefusal → ℕ
-placeNumber Records = 12
+placeNumber Records = recordsNumber
 placeNumber Rows = 13
 
 -- what a call answers, and what it leaves in the list for the answers

@@ -23,3 +23,7 @@ unfoldable pub readable : ℕ → List ℕ → Bool
 readable n report =
     (leb 1 n && leb n mostInputs)
     && (eqb (length report % recordBytes n) 0 && (every (hasCount n) (recordsOf n report) && checksAgree report))
+
+-- its number
+abbrev pub recordsNumber : ℕ
+recordsNumber = 12

@@ -7,6 +7,9 @@ ghost use Rattle.reports.specs.Placing.{placeNumber, answerNumber};
 pub mod asking;
 pub mod placing;
 
+// The number of question 12.
+pub const RECORDS_NUMBER: u64 = 12;
+
 // Why a call is turned away: by question 12, on the report's records, or 13, on the rows.
 pub enum PlaceRefusal {
     Records,
@@ -24,7 +27,7 @@ fn place_number(r: PlaceRefusal) -> u64
     ensures { λ n. ⌜ n ≡ placeNumber r ⌝ }
 {
     match r {
-        PlaceRefusal::Records => 12,
+        PlaceRefusal::Records => RECORDS_NUMBER,
         PlaceRefusal::Rows => 13,
     }
 }

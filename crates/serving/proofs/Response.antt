@@ -4,23 +4,16 @@ use mathlib.Core.Path.{_≡_, refl, sym, ap, _∙_}
 use mathlib.Core.Bool.{Bool, true}
 use mathlib.Core.List.{List, _++_}
 use mathlib.Core.Option.{none}
-use Prim.Native.Nat.{ℕ, _+_, _*_, _^_, _≤_, _<_}
+use Prim.Native.Nat.{ℕ, _+_, _*_, _^_, _≤_}
 use native.Mathlib.Omega.{arith}
-use borrow.Author.Tests.{ltb-true}
 use lib.Dec.{ltb}
-use lib.ListN.{length, drop, length-take}
-use Rattle.boxes.specs.Boxes.{_∈_}
-use Rattle.boxes.proofs.Places.{part-mem}
+use lib.ListN.{length, drop}
 use Rattle.blocks.specs.Record.{recordBytes}
 use Rattle.blocks.specs.Report.{recordsIn}
-use Rattle.blocks.proofs.Reading.{Fits}
-use Rattle.calls.specs.Call.{Call, inputsOf, Typed, Below, Reply, isPage, asks, refusalOf, jobOf, page, replyBy, replyTo, called}
-use Rattle.calls.specs.Limits.{firstEnd}
+use Rattle.calls.specs.Call.{Call, inputsOf, Typed, Below, Reply, isPage, refusalOf, jobOf, page, replyBy, replyTo, called}
 use Rattle.calls.specs.declared.Answer.the-variants.{Page}
-use Rattle.calls.specs.declared.Refusal.the-variants.{First}
-use Rattle.demands.proofs.Accepted.{accepted-yes, accepted-sound, job-inputs}
 use Rattle.demands.proofs.Refuses.{page-passes}
-use Rattle.demands.proofs.Words.{path-fits}
+use Rattle.demands.proofs.Reported.{page-few, page-fits}
 use Rattle.jobs.specs.Job.{inputCount, jobRead, callIn, jobNumber}
 use Rattle.listing.specs.Group.{Job}
 use Rattle.listing.specs.Listing.{Path, listing}
@@ -70,18 +63,6 @@ module _ (memory : List ℕ) (words : ℕ) (c : Call) (bounded : Below (2 ^ 64) 
   abbrev ps : List Path
   ps = page j c
 
-  page-few : c .first + length ps ≤ 2 ^ 64
-  unfolding page asks
-  page-few =
-      let first = ltb-true (c .first) firstEnd (accepted-yes memory words c d First) in
-      rw length-take (omega (arith, typed .bytes))
-
-  page-fits : (p : Path) → p ∈ ps → (k : ℕ) → k < 2 ^ 64 → Fits k p
-  unfolding page jobOf
-  page-fits p i =
-      path-fits j (accepted-sound memory words c d bounded (typed .intervals)) (typed .limit) p
-      (part-mem (recordsIn (inputsOf c) (c .report)) (c .first) (listing j) i) (job-inputs memory words c d)
-
   page-shown : {n : ℕ} {m : Bool} {left : List ℕ} (inputs : ℕ) → reply (Page n m) left ≡ replyTo memory words c → listingText inputs n m left ≡ listingOf (c .first) ps m
   unfolding replyTo replyBy
   page-shown {n} {m} {left} inputs e =
@@ -89,7 +70,7 @@ module _ (memory : List ℕ) (words : ℕ) (c : Call) (bounded : Below (2 ^ 64) 
       let a : Page n m ≡ Page (length ps) (ltb (c .first + length ps) (length (listing j))) = ap (λ (y : Reply). y .answer) f in
       let count : n ≡ length ps = cc in
       let bytes = ap (λ (y : Reply). y .report) f in
-      rw (count, bytes) (listing-told inputs (2 ^ 64) (drop (recordBytes (inputsOf c) * length ps) (c .report)) (c .first) ps m page-few page-fits)
+      rw (count, bytes) (listing-told inputs (2 ^ 64) (drop (recordBytes (inputsOf c) * length ps) (c .report)) (c .first) ps m (page-few memory words c bounded typed d) (page-fits memory words c bounded typed d))
 
 -- the text of a listing
 pub response-shown : {n : ℕ} {m : Bool} (job report : List ℕ) → Bytes job report → served job report .answer ≡ Listed n m

@@ -1,0 +1,79 @@
+-- The text has the length that was known before, and where that length is no word.
+-- Assumes nothing.
+use mathlib.Core.Path.{_≡_, refl, sym, ap, _∙_}
+use mathlib.Core.Bool.{_&&_}
+use mathlib.Core.List.{List, [], _∷_, flatMap}
+use Prim.Native.Nat.{ℕ, _+_, _*_, _/_, _^_, _<_, _≤_, min}
+use native.Mathlib.Nat.{mul-assoc, div-le-self, le-div-iff-mul-le, div-lt-iff-lt-mul}
+use native.Mathlib.Omega.{arith}
+use borrow.Author.Tests.{lt-leb, ltb-true, ltb-false}
+use lib.Dec.{leb, ltb}
+use lib.ListN.{length, length-append, length-map}
+use Rattle.boxes.specs.Boxes.{from}
+use Rattle.boxes.proofs.Lists.{by-test, length-from}
+use Rattle.riscu.specs.Word.{maxWord}
+use Rattle.blocks.specs.Record.{recordBytes}
+use Rattle.blocks.specs.Report.{recordsIn, recordAt}
+use Rattle.reports.specs.Readable.{recordsOf}
+use Rattle.sheets.specs.Line.{line, lineBytes}
+use Rattle.sheets.specs.Sheet.{pathLine, inputLine, inputLines, recordLines, sheetText, sheetLength}
+use Rattle.sheets.proofs.Columns.{line-length}
+
+-- parts of one length
+parts-length : {A : Type 0} (f : A → List ℕ) (k : ℕ) → ((x : A) → length (f x) ≡ k) → (xs : List A) → length (flatMap f xs) ≡ k * length xs
+unfolding flatMap
+parts-length f k h [] = omega arith
+parts-length f k h (x ∷ xs) = rw (length-append, h x, parts-length f k h xs) (omega arith)
+
+record-length : (n : ℕ) (bytes : List ℕ) → length (recordLines n bytes) ≡ lineBytes * (1 + n)
+unfolding recordLines inputLines pathLine inputLine
+record-length n bytes =
+    let inputs = parts-length (inputLine bytes) lineBytes (λ i. line-length i _ _) (from 0 n) in
+    rw (length-append, line-length, inputs, length-from n 0) (omega arith)
+
+-- known before a byte is written
+pub text-length : (n : ℕ) (report : List ℕ) → length (sheetText n report) ≡ sheetLength n (length report)
+unfolding sheetText
+text-length n report =
+    let each = parts-length (recordLines n) (lineBytes * (1 + n)) (record-length n) (recordsOf n report) in
+    let count : length (recordsOf n report) ≡ recordsIn n report = length-map (from 0 (recordsIn n report)) (recordAt n report) ∙ length-from (recordsIn n report) 0 in
+    rw (each, count) (mul-assoc lineBytes (1 + n) (recordsIn n report))
+
+-- The length that `sheet_bytes` works out, from the size of a record.
+
+module _ (n bytes : ℕ) {size : ℕ} (e : size ≡ recordBytes n) where
+  abbrev records : ℕ
+  records = bytes / size
+
+  pub length-none : records ≡ 0 → 0 ≡ min (sheetLength n bytes) maxWord
+  length-none h = let z : bytes / recordBytes n ≡ 0 = rw e at h in rw z (omega arith)
+
+  module _ (some : 1 ≤ records) where
+    -- as many lines as stand in a word
+    pub length-word : n < maxWord / lineBytes / records → lineBytes * ((1 + n) * records) ≤ maxWord
+    length-word h =
+        let l : (1 + n) * records ≤ maxWord / lineBytes = le-div-iff-mul-le some .0 (omega arith) in
+        omega arith
+
+    pub count-word : n < maxWord / lineBytes / records → 1 + n ≤ maxWord
+    count-word h = omega (arith, div-le-self (maxWord / lineBytes) records)
+
+    pub length-is : n < maxWord / lineBytes / records → lineBytes * ((1 + n) * records) ≡ min (sheetLength n bytes) maxWord
+    length-is h =
+        let l = length-word h in
+        let z : sheetLength n bytes ≡ lineBytes * ((1 + n) * records) = rw e in
+        omega arith
+
+    pub length-more : maxWord / lineBytes / records ≤ n → maxWord ≡ min (sheetLength n bytes) maxWord
+    length-more h =
+        let l : maxWord / lineBytes < (1 + n) * records = div-lt-iff-lt-mul some .0 (omega arith) in
+        let z : sheetLength n bytes ≡ lineBytes * ((1 + n) * records) = rw e in
+        omega arith
+
+-- and the question that is asked with it: MAX is no number of whole lines
+pub fits-read : (lines : ℕ) {bytes length : ℕ} → bytes ≡ min (lineBytes * lines) maxWord → length < 2 ^ 64
+    → leb (lineBytes * lines) length ≡ ltb bytes maxWord && leb bytes length
+fits-read lines {bytes} {length} e h =
+    by-test (ltb bytes maxWord)
+    (λ y. let l = ltb-true bytes maxWord y in let z : lineBytes * lines ≡ bytes = omega arith in rw (y, z))
+    (λ y. let l = ltb-false bytes maxWord y in rw (y, lt-leb (lineBytes * lines) length (omega arith)))

@@ -1,0 +1,53 @@
+// The sheet's length, and the questions 12 and 14; the first no decides.
+use crate::SheetAnswer;
+use crate::SheetRefusal;
+use blocks::report::record_bytes;
+use reports::asking::is_readable;
+ghost use mathlib.Core.Path.{_≡_};
+ghost use Prim.Native.Nat.{min};
+ghost use lib.Dec.{leb};
+ghost use lib.ListN.{length};
+ghost use Rattle.riscu.specs.Word.{maxWord};
+ghost use Rattle.sheets.specs.Sheet.{sheetLength, printedOn};
+
+// 72 columns and a line feed.
+const LINE_BYTES: usize = 73;
+
+// MAX: no sheet has this length, which is no whole number of lines.
+const TOO_LONG: usize = 18446744073709551615;
+
+// The length of a sheet, or MAX if it is no word.
+pub fn sheet_bytes(inputs: u64, report_bytes: usize) -> usize
+    ensures { λ r. ⌜ r ≡ min (sheetLength inputs «report_bytes») maxWord ⌝ }
+{
+    let n = inputs as usize;
+    let records = report_bytes / record_bytes(n);
+    if records == 0 {
+        return 0;
+    }
+    if n < TOO_LONG / LINE_BYTES / records {
+        return LINE_BYTES * ((1 + n) * records);
+    }
+    TOO_LONG
+}
+
+// Question 14.
+fn sheet_fits(inputs: u64, report: &[u8], sheet: &[u8]) -> bool
+    ensures { λ r. ⌜ r ≡ leb (sheetLength inputs (length (now (report .entry)))) (length (now (sheet .entry))) ⌝ }
+{
+    let bytes = sheet_bytes(inputs, report.len());
+    (bytes < TOO_LONG) & (bytes <= sheet.len())
+}
+
+// The first no of questions 12 and 14, or that both have the answer yes.
+pub(crate) fn ask_sheet(inputs: u64, report: &[u8], sheet: &[u8]) -> SheetAnswer
+    ensures { λ r. ⌜ r ≡ printedOn inputs report sheet .answer ⌝ }
+{
+    if !is_readable(inputs, report) {
+        return SheetAnswer::Refused(SheetRefusal::Records);
+    }
+    if !sheet_fits(inputs, report, sheet) {
+        return SheetAnswer::Refused(SheetRefusal::Short);
+    }
+    SheetAnswer::Printed
+}
