@@ -8,11 +8,12 @@ use formats::blocks::{flat, Interval, HIGHS, LOWS};
 use formats::instruction::{bits, immediate, Form};
 use formats::job::Job;
 use formats::limits::{
-    path_bytes, BLOCK_BYTES, ENTRY_WORDS, MEMORY_WORDS, MOST_INPUTS, MOST_ROWS, MOST_STEPS,
-    PAYLOAD_WORDS, REGISTERS, USUAL_PAGE_PATHS, USUAL_TABLE_WORDS,
+    path_bytes, BLOCK_BYTES, ENTRY_WORDS, LINE_BYTES, MEMORY_WORDS, MOST_INPUTS, MOST_ROWS,
+    MOST_STEPS, PAYLOAD_WORDS, REGISTERS, USUAL_PAGE_PATHS, USUAL_TABLE_WORDS,
 };
 use formats::random::Random;
 use formats::report::read_pages;
+use std::fmt::Write;
 use std::hint::black_box;
 use std::time::Instant;
 
@@ -369,19 +370,16 @@ fn passing_probes(random: &mut Random, a: u64) -> u64 {
 // Rows placed by a plain loop over the report's bytes, with the same questions.
 
 fn place_plain(inputs: u64, report: &[u8], rows: &[u64], answers: &mut [u64]) -> u64 {
-    let count = inputs as usize;
-    let records = || report.chunks_exact(path_bytes(count));
-    let countable = (1..=MOST_INPUTS).contains(&count);
-    let right = countable && report.len() % path_bytes(count) == 0;
-    if !right || !records().all(|record| is_record(record, inputs)) {
+    if !is_report(inputs, report) {
         return 12;
     }
+    let count = inputs as usize;
     let whole = rows.len() % count == 0 && rows.len() <= MOST_ROWS * count;
     if !whole || answers.len() != rows.len() / count {
         return 13;
     }
     for (row, answer) in rows.chunks_exact(count).zip(answers) {
-        let first = records().find(|record| holds(record, row));
+        let first = records(inputs, report).find(|record| holds(record, row));
         *answer = first.map_or(MAX, |record| word(record, 0));
     }
     0
@@ -389,6 +387,17 @@ fn place_plain(inputs: u64, report: &[u8], rows: &[u64], answers: &mut [u64]) ->
 
 fn word(bytes: &[u8], place: usize) -> u64 {
     u64::from_le_bytes(bytes[8 * place..8 * place + 8].try_into().expect("eight bytes"))
+}
+
+fn records(inputs: u64, report: &[u8]) -> std::slice::ChunksExact<'_, u8> {
+    report.chunks_exact(path_bytes(inputs as usize))
+}
+
+/// Question 12.
+fn is_report(inputs: u64, report: &[u8]) -> bool {
+    let countable = (1..=MOST_INPUTS as u64).contains(&inputs);
+    let whole = countable && report.len() % path_bytes(inputs as usize) == 0;
+    whole && records(inputs, report).all(|record| is_record(record, inputs))
 }
 
 fn is_record(bytes: &[u8], inputs: u64) -> bool {
@@ -425,6 +434,65 @@ fn rows_in(boxes: &[Vec<Interval>]) -> Vec<u64> {
         rows.extend(path.iter().map(|&ends| random.between(ends)));
     }
     rows
+}
+
+// ---------------------------------------------------------------------------------------------
+// Sheets by Rust's own formatting and by a plain loop, with the same question on the report.
+
+/// Its text grows as it must, so there is no question 14.
+fn sheet_formatted(inputs: u64, report: &[u8], sheet: &mut String) -> u64 {
+    if !is_report(inputs, report) {
+        return 12;
+    }
+    sheet.clear();
+    each_line(inputs, report, |[first, second, third]| {
+        let written = writeln!(sheet, "{first:>20}   {second:>20}    {third:>20}     ");
+        written.expect("a String takes any text");
+    });
+    0
+}
+
+fn sheet_plain(inputs: u64, report: &[u8], sheet: &mut [u8]) -> u64 {
+    if !is_report(inputs, report) {
+        return 12;
+    }
+    let lines = records(inputs, report).len() * (1 + inputs as usize);
+    if sheet.len() < lines * LINE_BYTES {
+        return 14;
+    }
+    let mut room = sheet.chunks_exact_mut(LINE_BYTES);
+    each_line(inputs, report, |numbers| {
+        let line = room.next().expect("room for the line");
+        line.fill(b' ');
+        line[LINE_BYTES - 1] = b'\n';
+        for (number, end) in numbers.into_iter().zip([20, 43, 67]) {
+            write_digits(&mut line[..end], number);
+        }
+    });
+    0
+}
+
+/// The three numbers of each line.
+fn each_line(inputs: u64, report: &[u8], mut write_line: impl FnMut([u64; 3])) {
+    for record in records(inputs, report) {
+        // number, kind and reason
+        write_line([0, 1, 23].map(|place| word(record, place)));
+        for input in 0..inputs as usize {
+            write_line([input as u64, word(record, LOWS + input), word(record, HIGHS + input)]);
+        }
+    }
+}
+
+/// At the end of a field that has room for all digits.
+fn write_digits(field: &mut [u8], number: u64) {
+    let mut left = number;
+    for byte in field.iter_mut().rev() {
+        *byte = b'0' + (left % 10) as u8;
+        left /= 10;
+        if left == 0 {
+            break;
+        }
+    }
 }
 
 // ---------------------------------------------------------------------------------------------
@@ -656,6 +724,43 @@ fn print_placed(report: &[u8], rows: &[u64], repeats: u32) {
     );
 }
 
+fn print_sheets() {
+    let mut short = waiting_time();
+    short.paths = 6;
+    let mut page = compared_and_added(8);
+    page.paths = USUAL_PAGE_PATHS;
+    println!("\n## Sheets\n");
+    println!("| inputs | paths | lines | `writeln!`, µs | plain loop, µs | library, µs | to `writeln!` | to the loop |");
+    println!("|---|---|---|---|---|---|---|---|");
+    print_sheet(&short, 200);
+    print_sheet(&page, 20);
+    print_sheet(&compared_and_added(8), 1);
+}
+
+/// The sheet of a call's page, which is full.
+fn print_sheet(call: &Call, repeats: u32) {
+    let (inputs, (report, _)) = (call.job.intervals.len() as u64, first_page(call));
+    let mut sheet = vec![0; library::sheet_bytes(inputs, report.len())];
+    let (mut plain_sheet, mut text) = (sheet.clone(), String::with_capacity(sheet.len()));
+    assert_eq!(library::sheet(inputs, &report, &mut sheet), 0);
+    assert_eq!(sheet_plain(inputs, &report, &mut plain_sheet), 0);
+    assert_eq!(sheet_formatted(inputs, &report, &mut text), 0);
+    assert!(sheet == plain_sheet && sheet == text.as_bytes(), "the three print the same sheet");
+    let formatted = median_ns(repeats, || {
+        black_box(sheet_formatted(inputs, black_box(&report), &mut text));
+    });
+    let plain = median_ns(repeats, || {
+        black_box(sheet_plain(inputs, black_box(&report), &mut plain_sheet));
+    });
+    let ns = median_ns(repeats, || {
+        black_box(library::sheet(inputs, black_box(&report), &mut sheet));
+    });
+    let times = [formatted, plain, ns].map(|ns| format!("{:.1}", ns / 1000.0)).join(" | ");
+    let (paths, lines) = (call.paths, sheet.len() / LINE_BYTES);
+    let (to_formatted, to_plain) = (ns / formatted, ns / plain);
+    println!("| {inputs} | {paths} | {lines} | {times} | {to_formatted:.1} | {to_plain:.1} |");
+}
+
 fn main() {
     print_against_plain();
     print_scaling();
@@ -664,4 +769,5 @@ fn main() {
     print_growth();
     print_single_calls();
     print_placing();
+    print_sheets();
 }

@@ -5,7 +5,7 @@
 //! and quotients by numbers of all sizes.
 //! `explore_test [SEED COUNT]`: job k of a run has the seed SEED + k.
 
-#[allow(dead_code)] // rows are placed by place_test
+#[allow(dead_code)] // rows are placed by place_test, sheets printed by sheet_test
 #[path = "../tool/library.rs"]
 mod library;
 mod listing_check;

@@ -1,4 +1,4 @@
-//! A brute-force oracle for the interval path explorer, after document 01 and Nos. 1 to 5 of
+//! A brute-force oracle for the interval path explorer, after document 01 and Nos. 1 to 6 of
 //! document 02.
 //!
 //! A group holds every choice of its box, each with a plain machine of its own; a value is fixed if
@@ -945,4 +945,52 @@ fn holds(path: &[u64], row: &[u64]) -> bool {
 fn words(bytes: &[u8]) -> Vec<u64> {
     let word = |bytes: &[u8]| bytes.iter().rev().fold(0, |value, &byte| value * 256 + byte as u64);
     bytes.chunks(8).map(word).collect()
+}
+
+// ---------------------------------------------------------------------------------------------
+// A sheet: No. 6 of document 02.
+
+pub const SHORT_SHEET: u64 = 14;
+
+const COLUMNS: usize = 72;
+const FIELD_COLUMNS: usize = 20;
+/// Where the fields begin, counted from 1.
+const FIELD_STARTS: [usize; 3] = [1, 24, 48];
+
+/// Prints the report; 0, or the number of the refusal.
+pub fn sheet(inputs: u64, report: &[u8], sheet: &mut [u8]) -> u64 {
+    let Some(paths) = records(inputs, report) else { return BAD_RECORDS };
+    if (sheet.len() as u64) < sheet_bytes(inputs, report.len()) {
+        return SHORT_SHEET;
+    }
+    let text: String = paths.iter().flat_map(|path| fields(path)).map(line).collect();
+    sheet[..text.len()].copy_from_slice(text.as_bytes());
+    0
+}
+
+/// A line and its line feed for each path and for each of its inputs; MAX where these are more.
+pub fn sheet_bytes(inputs: u64, report_bytes: usize) -> u64 {
+    let paths = report_bytes / path_bytes(inputs as usize);
+    let lines = paths as u128 * (1 + inputs as u128);
+    u64::try_from(lines * (COLUMNS as u128 + 1)).unwrap_or(u64::MAX)
+}
+
+/// Path number, kind and reason, then for each input its number, low and high.
+fn fields(path: &[u64]) -> Vec<[u64; 3]> {
+    let mut lines = vec![[path[0], path[1], path[23]]];
+    for input in 0..path[4] as usize {
+        lines.push([input as u64, path[5 + input], path[13 + input]]);
+    }
+    lines
+}
+
+fn line(fields: [u64; 3]) -> String {
+    let mut columns = vec![' '; COLUMNS];
+    for (field, start) in fields.iter().zip(FIELD_STARTS) {
+        let digits: Vec<char> = field.to_string().chars().collect();
+        let after = start - 1 + FIELD_COLUMNS;
+        columns[after - digits.len()..after].copy_from_slice(&digits);
+    }
+    columns.push('\n');
+    columns.into_iter().collect()
 }

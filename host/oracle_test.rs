@@ -1,5 +1,5 @@
-//! Tests of the oracle itself: document 01's rules on trial, Nos. 1, 2, 3 and 5 of document 02, and
-//! random jobs against runs of its plain machine.
+//! Tests of the oracle itself: document 01's rules on trial, Nos. 1, 2, 3, 5 and 6 of document 02,
+//! and random jobs against runs of its plain machine.
 
 mod listing_check;
 mod oracle;
@@ -731,8 +731,13 @@ fn paths_come_back_from_their_pages() {
 
 /// A record with this number and box; nothing is asked about the words that hold 7.
 fn record(number: u64, boxed: &[Interval]) -> Vec<u8> {
+    record_of([number, 7, 7], boxed)
+}
+
+/// A record with this number, kind and reason.
+fn record_of(path: [u64; 3], boxed: &[Interval]) -> Vec<u8> {
     let mut words = [7; 2 * PAYLOAD_WORDS];
-    (words[0], words[4]) = (number, boxed.len() as u64);
+    ([words[0], words[1], words[23]], words[4]) = (path, boxed.len() as u64);
     for (input, &ends) in boxed.iter().enumerate() {
         (words[5 + input], words[13 + input]) = ends;
     }
@@ -887,4 +892,146 @@ fn the_examples_of_the_definitions() {
     assert_eq!(answer(1, &overlapping, &[0, 1], 1), [13, 5]);
     assert_eq!(answer(1, &overlapping, &[], 1), [13, 5]);
     assert_eq!(answer(1, &set(&overlapping, 300), &[0, 1], 1), [12, 5]);
+}
+
+/// The number, and what a sheet of so many bytes, which came with # in each, then holds.
+fn printed(inputs: u64, report: &[u8], sheet_bytes: usize) -> (u64, String) {
+    let mut lent = vec![b'#'; sheet_bytes];
+    let number = sheet(inputs, report, &mut lent);
+    (number, String::from_utf8(lent).unwrap())
+}
+
+/// What an accepted call answers, on a sheet that has these lines of 72 columns and no more.
+fn accepted(lines: &[&str]) -> (u64, String) {
+    assert!(lines.iter().all(|line| line.len() == 72), "{lines:?}");
+    (0, lines.iter().map(|line| format!("{line}\n")).collect())
+}
+
+/// What a refused call answers, on a sheet of so many bytes.
+fn refused(number: u64, sheet_bytes: usize) -> (u64, String) {
+    (number, "#".repeat(sheet_bytes))
+}
+
+const JOB_A_SHEET: [&str; 4] = [
+    "                   0                      1                       0     ",
+    "                   0                      0                       9     ",
+    "                   1                      1                       0     ",
+    "                   0                     10                     255     ",
+];
+
+#[test]
+fn a_sheet_of_job_a() {
+    let records = [record_of([0, 1, 0], &[(0, 9)]), record_of([1, 1, 0], &[(10, 255)])];
+    assert_eq!(printed(1, &records.concat(), 292), accepted(&JOB_A_SHEET));
+    let mut report = [0; 2 * RECORD];
+    call(&job_a().code, &MEMORY, &[0, 255], 100, USUAL_TABLE_WORDS, &mut report, 0);
+    assert_eq!(printed(1, &report, 292), accepted(&JOB_A_SHEET));
+    assert_eq!(printed(1, &report[RECORD..], 146), accepted(&JOB_A_SHEET[2..]));
+}
+
+#[test]
+fn numbers_of_all_lengths_on_a_sheet() {
+    let highest = [
+        "18446744073709551615   18446744073709551615    18446744073709551615     ",
+        "                   0   18446744073709551615    18446744073709551615     ",
+    ];
+    assert_eq!(printed(1, &record_of([MAX; 3], &[(MAX, MAX)]), 146), accepted(&highest));
+    let zeros = ["                   0                      0                       0     "; 2];
+    assert_eq!(printed(1, &record_of([0; 3], &[(0, 0)]), 146), accepted(&zeros));
+    let ends = [
+        (0, 1),
+        (9, 10),
+        (99, 100),
+        (999, 1000),
+        (12345, 67890),
+        (1_000_000_000, 10_000_000_000),
+        (1_000_000_000_000_000_000, 9_999_999_999_999_999_999),
+        (10_000_000_000_000_000_000, MAX),
+    ];
+    let lines = [
+        "               12345                      9                       0     ",
+        "                   0                      0                       1     ",
+        "                   1                      9                      10     ",
+        "                   2                     99                     100     ",
+        "                   3                    999                    1000     ",
+        "                   4                  12345                   67890     ",
+        "                   5             1000000000             10000000000     ",
+        "                   6    1000000000000000000     9999999999999999999     ",
+        "                   7   10000000000000000000    18446744073709551615     ",
+    ];
+    assert_eq!(printed(8, &record_of([12345, 9, 0], &ends), 657), accepted(&lines));
+}
+
+#[test]
+fn paths_with_a_reason_and_without_one_on_a_sheet() {
+    let with_reason = record_of([7, 8, 5], &[(0, 9), (3600, MAX)]);
+    let without = record_of([3, 1, 0], &[(10, 10), (0, 3599)]);
+    let lines = [
+        "                   7                      8                       5     ",
+        "                   0                      0                       9     ",
+        "                   1                   3600    18446744073709551615     ",
+        "                   3                      1                       0     ",
+        "                   0                     10                      10     ",
+        "                   1                      0                    3599     ",
+    ];
+    assert_eq!(printed(2, &[with_reason, without].concat(), 438), accepted(&lines));
+    // a foreign record's words as they stand: a reason with kind 1, and a low above its high
+    let foreign = [
+        "10000000000000000000                      1                       9     ",
+        "                   0                     20                      10     ",
+    ];
+    let report = record_of([10_000_000_000_000_000_000, 1, 9], &[(20, 10)]);
+    assert_eq!(printed(1, &report, 146), accepted(&foreign));
+}
+
+#[test]
+fn a_longer_sheet_keeps_its_rest() {
+    let report = record_of([1, 1, 0], &[(10, 255)]);
+    let (number, text) = accepted(&JOB_A_SHEET[2..]);
+    assert_eq!(printed(1, &report, 148), (number, text + "##"));
+    assert_eq!(printed(3, &[], 0), (0, String::new()));
+    assert_eq!(printed(3, &[], 3), (0, "###".to_string()));
+}
+
+#[test]
+fn sheets_that_are_refused() {
+    let report = record_of([1, 1, 0], &[(10, 255)]);
+    assert_eq!(printed(1, &report, 145), refused(SHORT_SHEET, 145));
+    assert_eq!(printed(1, &report, 0), refused(SHORT_SHEET, 0));
+    // the report is asked first, here about the check of its second block
+    let mut changed = report.clone();
+    changed[RECORD - 1] ^= 1;
+    for sheet_bytes in [145, 146] {
+        assert_eq!(printed(0, &[], sheet_bytes), refused(BAD_RECORDS, sheet_bytes));
+        assert_eq!(printed(2, &report, sheet_bytes), refused(BAD_RECORDS, sheet_bytes));
+        assert_eq!(printed(1, &report[1..], sheet_bytes), refused(BAD_RECORDS, sheet_bytes));
+        assert_eq!(printed(1, &changed, sheet_bytes), refused(BAD_RECORDS, sheet_bytes));
+    }
+}
+
+#[test]
+fn lengths_of_sheets() {
+    // 2^64 - 2 is 73 times this
+    let most_lines = 252_695_124_297_391_118;
+    let last = 17_250_653_818_701_900_799;
+    let lengths = [
+        (1, 0, 0),
+        (1, 1023, 0),
+        (1, 1024, 146),
+        (2, 3 * 1024 + 1023, 657),
+        (8, 64 * 1024, 42048),
+        (0, 1024, 73),
+        (8, usize::MAX, 11_835_459_820_729_662_831),
+        (13, usize::MAX, 18_410_715_276_690_586_626),
+        (14, usize::MAX, MAX),
+        (14, last, 18_446_744_073_709_551_030),
+        (14, last + 1, MAX),
+        (most_lines - 1, 1024, MAX - 1),
+        (most_lines, 1024, MAX),
+        (MAX, 1023, 0),
+        (MAX, 1024, MAX),
+    ];
+    for (inputs, report_bytes, length) in lengths {
+        assert_eq!(sheet_bytes(inputs, report_bytes), length, "{inputs} {report_bytes}");
+    }
 }

@@ -1,22 +1,10 @@
 /* Rows placed through the library's border, as the course server does it: in Job A's report, in reports put together from its paths, and
  * with every refusal. Prints nothing; every byte lent, and between what is lent, is compared. */
 
-#include <stdbool.h>
-#include <stdio.h>
-#include <stdlib.h>
-#include <string.h>
+#define CALLER "placing"
+#include "lending.h"
 
-#include "../examples/job_a.h"
-#include "mirokefa.h"
-
-enum {
-    PATH_BYTES = MIROKEFA_PATH_BYTES(MIROKEFA_MOST_INPUTS),
-    BLOCK_BYTES = MIROKEFA_BLOCK_BYTES,
-    MOST_ROWS = MIROKEFA_MOST_ROWS,
-    MOST_PATHS = 4,
-    MARGIN = 8,
-    FILL = 0xA5
-};
+enum { MOST_ROWS = MIROKEFA_MOST_ROWS, MOST_PATHS = 4 };
 
 /* All that calls lend, each part behind a margin; there is room for lists that are too long. */
 struct room {
@@ -38,27 +26,13 @@ struct call {
 
 static struct room lent;
 static struct room expected;
-static uint64_t memory[MIROKEFA_MEMORY_WORDS];
-static uint64_t table[MIROKEFA_USUAL_TABLE_WORDS];
 
-static const uint64_t TWO_INPUTS[4] = {0, 255, 3, 7};
 static const uint64_t NO_PATH = MIROKEFA_NO_PATH;
 
-static void require(bool holds, const char *what)
-{
-    if (!holds) {
-        fprintf(stderr, "placing: %s\n", what);
-        exit(1);
-    }
-}
-
-/* Writes the paths of Job A's code on a box to a place of the report; its code reads the first input alone. */
+/* Writes the paths of Job A's code on a box to a place of the report. */
 static void explore(const uint64_t *box, size_t inputs, uint64_t limit, size_t place, uint64_t paths)
 {
-    struct mirokefa_outcome outcome = mirokefa_explore(
-        JOB_A, JOB_A_WORDS, memory, MIROKEFA_MEMORY_WORDS, box, 2 * inputs, limit,
-        table, MIROKEFA_USUAL_TABLE_WORDS, lent.report + MARGIN + place * PATH_BYTES, paths * PATH_BYTES, 0);
-    require(outcome.refused == MIROKEFA_ACCEPTED && outcome.count == paths && outcome.more == 0, "Job A has other paths");
+    explore_code(JOB_A, box, inputs, limit, lent.report + MARGIN + place * PATH_BYTES, paths);
 }
 
 static void move_path(size_t to, size_t from)

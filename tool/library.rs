@@ -100,12 +100,6 @@ pub fn sheet_bytes(inputs: u64, report_bytes: usize) -> usize {
 pub fn sheet(inputs: u64, report: &[u8], sheet: &mut [u8]) -> u64 {
     // SAFETY: as for explore
     unsafe {
-        mirokefa_sheet(
-            inputs,
-            report.as_ptr(),
-            report.len(),
-            sheet.as_mut_ptr(),
-            sheet.len(),
-        )
+        mirokefa_sheet(inputs, report.as_ptr(), report.len(), sheet.as_mut_ptr(), sheet.len())
     }
 }

@@ -1,8 +1,9 @@
-//! Makes, shows and explores jobs, and places rows in their paths. Exploring and placing are done by
-//! the proved library; the rest is not proved.
+//! Makes, shows and explores jobs, and places rows in their paths. Exploring, placing and the text of a
+//! sheet are done by the proved library; the rest is not proved.
 
 mod library;
 mod place;
+mod sheet;
 
 use formats::blocks::flat;
 use formats::job::{self, Job};
@@ -139,21 +140,26 @@ struct Options {
     first: Option<u64>,
     paths: usize,
     shown: Shown,
+    sheet: bool,
     report: Option<String>,
 }
 
 fn options(arguments: &[String]) -> Result<Options> {
     let (paths, shown) = (USUAL_PAGE_PATHS, Shown::None);
-    let mut options = Options { first: None, paths, shown, report: None };
+    let mut options = Options { first: None, paths, shown, sheet: false, report: None };
     let mut left = arguments.iter();
     while let Some(argument) = left.next() {
         match (argument.as_str(), &mut left) {
             ("--registers", _) => options.shown = Shown::All,
+            ("--sheet", _) => options.sheet = true,
             ("--first", left) => options.first = Some(option_number(argument, left.next())?),
             ("--paths", left) => options.paths = path_count(argument, left.next())?,
             ("--report", left) => options.report = Some(left.next().ok_or_else(usage)?.clone()),
             _ => return Err(usage()),
         }
+    }
+    if options.sheet && options.shown != Shown::None {
+        return Err(fault("--sheet", "a sheet has no registers: leave out --sheet or --registers"));
     }
     Ok(options)
 }
@@ -179,13 +185,24 @@ fn explore(name: &str, arguments: &[String]) -> Result<Output> {
 fn explore_job(job: &Job, options: &Options) -> Result<Output> {
     let first = options.first.unwrap_or(job.first);
     let (page, reply) = explore_page(job, options.paths, first)?;
+    let inputs = job.intervals.len();
+    let used = &page[..reply.count as usize * path_bytes(inputs)];
+    let output = if options.sheet {
+        sheet::sheet_output(inputs, used, first, reply)?
+    } else {
+        listing_output(inputs, used, reply, options.shown)?
+    };
+    // last: a rule that is turned away leaves no file
     if let Some(name) = &options.report {
         std::fs::write(name, &page).map_err(|error| fault(name, error))?;
     }
-    let inputs = job.intervals.len();
-    let records = report::read_pages(&page[..reply.count as usize * path_bytes(inputs)], inputs);
+    Ok(output)
+}
+
+fn listing_output(inputs: usize, page: &[u8], reply: Reply, shown: Shown) -> Result<Output> {
+    let records = report::read_pages(page, inputs);
     let records = records.map_err(|message| fault("the library's report", message))?;
-    Ok(output(report::listing(&records, reply.more != 0, options.shown)))
+    Ok(output(report::listing(&records, reply.more != 0, shown)))
 }
 
 /// A page of so many paths, zero where none is written, and the library's reply.

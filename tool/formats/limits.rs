@@ -11,6 +11,8 @@ pub const ENTRY_WORDS: usize = 8;
 pub const PATH_NUMBERS: u64 = 1 << 32;
 /// Rows that one call places.
 pub const MOST_ROWS: usize = 1024;
+/// Bytes of a line on a sheet: 72 columns and a line feed.
+pub const LINE_BYTES: usize = 73;
 
 /// The last word of a block checks the others.
 pub const BLOCK_WORDS: usize = 64;
@@ -50,6 +52,7 @@ mod tests {
             ("ENTRY_WORDS", ENTRY_WORDS),
             ("PATH_NUMBERS (UINT64_C(1) <<", PATH_NUMBERS.ilog2() as usize),
             ("MOST_ROWS", MOST_ROWS),
+            ("LINE_BYTES", LINE_BYTES),
             ("BLOCK_WORDS", BLOCK_WORDS),
             ("BLOCK_BYTES", BLOCK_BYTES),
             ("MOST_BLOCKS", MOST_BLOCKS),

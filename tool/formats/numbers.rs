@@ -4,7 +4,7 @@ use crate::limits::*;
 
 // The highest numbers; the lowest is 1. The first refusals are an exploration's.
 pub const CALL_REFUSALS: u64 = 8;
-pub const REFUSALS: u64 = 13;
+pub const REFUSALS: u64 = 14;
 pub const KINDS: u64 = 9;
 pub const REASONS: u64 = 7;
 
@@ -36,6 +36,7 @@ pub fn refusal_text(number: u64) -> String {
         11 => "the header's first word is not 1, blocks are missing or too many, or an unused word is not 0".to_string(),
         12 => format!("the input count is not 1 to {MOST_INPUTS}, or the report is not whole records of that count with checks that agree"),
         13 => format!("the rows are not whole or more than {MOST_ROWS}, or there is not one answer for each"),
+        14 => "the sheet is shorter than its text".to_string(),
         _ => "no such refusal".to_string(),
     }
 }

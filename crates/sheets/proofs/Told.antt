@@ -7,10 +7,13 @@ use native.Mathlib.Omega.{arith}
 use lib.ListN.{length}
 use Rattle.boxes.specs.Boxes.{from}
 use Rattle.listing.specs.Listing.{Path}
+use Rattle.blocks.specs.Block.{wordAt}
+use Rattle.blocks.specs.Layout as layout
 use Rattle.blocks.specs.Record.{records}
 use Rattle.blocks.specs.Reading.{Tells}
 use Rattle.blocks.specs.Report.{recordsIn, recordAt}
 use Rattle.blocks.proofs.Reading.{Fits}
+use Rattle.printing.specs.Output.{Output, write}
 use Rattle.printing.proofs.Told.{box-told, records-told}
 use Rattle.reports.proofs.Written.{Writable, report-records}
 use Rattle.sheets.specs.Line.{line}
@@ -29,6 +32,12 @@ flat-map f g (x ∷ l) = rw (flat-map f g l)
 pub text-is : (n : ℕ) (report : List ℕ) → sheetText n report ≡ flatMap (linesAt n report) (from 0 (recordsIn n report))
 unfolding sheetText
 text-is n report = flat-map (recordLines n) (recordAt n report) (from 0 (recordsIn n report))
+
+-- a path's line from the words that were read
+pub path-written : (s : Output) (bytes : List ℕ) {u : Output} {number kind reason : ℕ} → number ≡ wordAt bytes layout.number → kind ≡ wordAt bytes layout.kind
+    → reason ≡ wordAt bytes layout.reason → u ≡ write s (line number kind reason) → u ≡ write s (pathLine bytes)
+unfolding pathLine
+path-written s bytes n k r e = rw (← n, ← k, ← r) e
 
 -- bytes that tell of path k that it is p
 record-told : (n : ℕ) (bytes : List ℕ) (k : ℕ) (p : Path) → Fits k p → Tells bytes k p → length (p .box) ≡ n → recordLines n bytes ≡ pathLinesOf k p

@@ -10,16 +10,25 @@ returns : tie.Need-returns
 returns c = length-none _ _ (c .before .record-bytes .ensures) (c .if1 .taken)
 
 add-result : tie.Need-add-result
-add-result c = let l = count-word _ _ (c .before .before .record-bytes .ensures) (omega arith) (c .if2 .taken) in omega arith
+add-result c =
+    let a = c .before .before .before .args in
+    let l = count-word (a .inputs) (a .report-bytes) (c .before .before .record-bytes .ensures) (omega arith) (omega arith) in
+    omega arith
 
 mul-result : tie.Need-mul-result
-mul-result c = let l = length-word _ _ (c .before .before .record-bytes .ensures) (omega arith) (c .if2 .taken) in omega arith
+mul-result c =
+    let a = c .before .before .before .args in
+    let l = length-word (a .inputs) (a .report-bytes) (c .before .before .record-bytes .ensures) (omega arith) (omega arith) in
+    omega arith
 
 mul-result-2 : tie.Need-mul-result-2
-mul-result-2 c = let l = length-word _ _ (c .before .before .record-bytes .ensures) (omega arith) (c .if2 .taken) in omega arith
+mul-result-2 c =
+    let a = c .before .before .before .args in
+    let l = length-word (a .inputs) (a .report-bytes) (c .before .before .record-bytes .ensures) (omega arith) (omega arith) in
+    omega arith
 
 returns-2 : tie.Need-returns-2
-returns-2 c = length-is _ _ (c .before .before .record-bytes .ensures) (omega arith) (c .if2 .taken)
+returns-2 c = length-is _ _ (c .before .before .record-bytes .ensures) (omega arith) (omega arith)
 
 returns-3 : tie.Need-returns-3
 returns-3 c = length-more _ _ (c .before .before .record-bytes .ensures) (omega arith) (omega arith)

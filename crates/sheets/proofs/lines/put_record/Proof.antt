@@ -4,9 +4,11 @@ use mathlib.Core.Path.{_∙_}
 use native.Mathlib.Omega.{arith}
 use borrow.Author.Needs.{needs}
 use denote.Ref.{now}
+use Rattle.blocks.specs.Report.{recordAt}
 use Rattle.printing.specs.Output.{output}
 use Rattle.printing.proofs.Outputs.{then}
-use Rattle.sheets.specs.Sheet.{pathLine, recordLines}
+use Rattle.sheets.specs.Sheet.{pathLine, inputLines, recordLines}
+use Rattle.sheets.proofs.Told.{path-written}
 use Rattle.sheets.proofs.lines.put_record.Statement.{statement}
 use Rattle.sheets.proofs.lines.put_record.Tie as tie
 
@@ -14,12 +16,15 @@ same-length : tie.Need-same-length
 same-length c = c .before .before .put-inputs .kept .1 .1 .1 .0 ∙ c .before .before .before .before .before .before .put-line .kept .0
 
 returns : tie.Need-returns
-unfolding recordLines pathLine
+unfolding recordLines
 returns c =
     let words = c .before .before .before .before .before .before .before .before in
     let a = words .before .before .before .before .before .args in
-    rw (← words .before .before .record-word .ensures, ← words .before .record-word2 .ensures, ← words .record-word3 .ensures)
-    (then (output (now (a .out)) (a .at)) _ _ (c .before .before .before .before .before .before .put-line .ensures) (c .before .before .put-inputs .ensures))
+    let s = output (now (a .out)) (a .at) in
+    let bytes = recordAt (a .inputs) (now (a .report)) (a .k) in
+    then s (pathLine bytes) (inputLines (a .inputs) bytes)
+    (path-written s bytes (words .before .before .record-word .ensures) (words .before .record-word2 .ensures) (words .record-word3 .ensures) (c .before .before .before .before .before .before .put-line .ensures))
+    (c .before .before .put-inputs .ensures)
 
 pub put-record-spec : {M : Type 1} → statement M
 put-record-spec =
