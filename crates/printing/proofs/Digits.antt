@@ -57,7 +57,7 @@ pub digits-length : (n : ℕ) → length (digits n) ≤ wordDigits
 unfolding digits
 digits-length n = length-in wordDigits n
 
-digits-one : (n : ℕ) → n < 10 → digits n ≡ digit n ∷ []
+pub digits-one : (n : ℕ) → n < 10 → digits n ≡ digit n ∷ []
 unfolding digits digitsIn
 digits-one n h = rw (lt-ltb n 10 h)
 
@@ -65,7 +65,7 @@ more-in : (k n : ℕ) → 10 ≤ n → digitsIn (suc k) n ≡ digitsIn k (n / 10
 unfolding digitsIn
 more-in k n h = rw (le-ltb n 10 h)
 
-digits-more : (n : ℕ) → 10 ≤ n → n < 2 ^ 64 → digits n ≡ digits (n / 10) ++ (digit (n % 10) ∷ [])
+pub digits-more : (n : ℕ) → 10 ≤ n → n < 2 ^ 64 → digits n ≡ digits (n / 10) ++ (digit (n % 10) ∷ [])
 unfolding digits
 digits-more n h l = more-in 19 n h ∙ ap (λ (ds : List ℕ). ds ++ (digit (n % 10) ∷ [])) (digits-in 18 (n / 10) (omega arith))
 

@@ -1,5 +1,7 @@
 // Texts and numbers on a lent slice: each function writes from `at` on, as far as it fits, and answers where the next byte goes.
 ghost use mathlib.Core.Path.{_≡_};
+ghost use Prim.Native.Nat.{_+_, _≤_};
+ghost use lib.ListN.{length};
 ghost use Rattle.printing.specs.Printed.{digits, field, range};
 ghost use Rattle.printing.specs.Output.{output, push, Writes};
 
@@ -14,8 +16,21 @@ fn put_byte(out: &mut [u8], at: usize, b: u8) -> usize
     at
 }
 
-// A text.
-pub fn put_text(out: &mut [u8], at: usize, text: &[u8]) -> usize
+// A text that fits: no byte is asked for room by itself.
+fn put_whole(out: &mut [u8], at: usize, text: &[u8]) -> usize
+    requires { ⌜ at + length (now text) ≤ length (now out) ⌝ }
+    ensures { λ r. ⌜ Writes out at r (now (text .entry)) ⌝ }
+{
+    let mut i: usize = 0;
+    while i < text.len() {
+        out[at + i] = text[i];
+        i += 1;
+    }
+    at + i
+}
+
+// A text, as far as it fits.
+fn put_part(out: &mut [u8], at: usize, text: &[u8]) -> usize
     ensures { λ r. ⌜ Writes out at r (now (text .entry)) ⌝ }
 {
     let mut p = at;
@@ -27,8 +42,20 @@ pub fn put_text(out: &mut [u8], at: usize, text: &[u8]) -> usize
     p
 }
 
+// A text.
+pub fn put_text(out: &mut [u8], at: usize, text: &[u8]) -> usize
+    ensures { λ r. ⌜ Writes out at r (now (text .entry)) ⌝ }
+{
+    if at <= out.len() {
+        if text.len() <= out.len() - at {
+            return put_whole(out, at, text);
+        }
+    }
+    put_part(out, at, text)
+}
+
 // A number in base ten: at most 20 calls deep, since MAX has 20 digits.
-pub fn put_digits(out: &mut [u8], at: usize, n: u64) -> usize
+fn put_digits(out: &mut [u8], at: usize, n: u64) -> usize
     ensures { λ r. ⌜ Writes out at r (digits n) ⌝ }
 {
     if n < 10 {

@@ -11,7 +11,7 @@ ghost use Rattle.riscu.specs.Word.{maxWord};
 ghost use Rattle.sheets.specs.Sheet.{sheetLength, printedOn};
 
 // 72 columns and a line feed.
-const LINE_BYTES: usize = 73;
+pub(crate) const LINE_BYTES: usize = 73;
 
 // MAX: no sheet has this length, which is no whole number of lines.
 const TOO_LONG: usize = 18446744073709551615;

@@ -1,4 +1,5 @@
 // The lines of a report's records, from their words; `inputs` is the input count of its paths, `k` the record's place in it.
+use crate::asking::LINE_BYTES;
 use blocks::layout::KIND;
 use blocks::layout::NUMBER;
 use blocks::layout::REASON;
@@ -6,55 +7,56 @@ use blocks::report::input_high;
 use blocks::report::input_low;
 use blocks::report::record_word;
 use blocks::report::records_in;
-use printing::writer::put_digits;
 use printing::writer::put_text;
 ghost use mathlib.Core.Path.{_≡_};
-ghost use Prim.Native.Nat.{_≤_, _<_};
+ghost use Prim.Native.Nat.{_+_, _-_, _≤_, _<_};
 ghost use lib.ListN.{length};
 ghost use Rattle.blocks.specs.Record.{mostInputs};
 ghost use Rattle.blocks.specs.Report.{recordsIn, recordAt};
+ghost use Rattle.blocks.specs.Writing.{put};
 ghost use Rattle.printing.specs.Output.{Writes, fitted};
 ghost use Rattle.printing.specs.Printed.{digits};
-ghost use Rattle.sheets.specs.Line.{field, line};
+ghost use Rattle.sheets.specs.Line.{fieldColumns, line};
 ghost use Rattle.sheets.specs.Sheet.{inputLines, recordLines, sheetText};
 
-// Columns of a field: MAX has as many digits.
 const FIELD_COLUMNS: usize = 20;
+
+// Where the fields begin, counted from 1.
+const FIRST_COLUMN: usize = 1;
+
+const SECOND_COLUMN: usize = 24;
+
+const THIRD_COLUMN: usize = 48;
 
 const SPACE: u8 = 32;
 
-// How many digits a number has.
-fn digit_count(n: u64) -> usize
-    ensures { λ r. ⌜ r ≡ length (digits n) ⌝ }
+const LINE_FEED: u8 = 10;
+
+// Writes a number's digits, from the last one back, so that they end where the field that begins at `column` does.
+fn set_field(text: &mut [u8], column: usize, n: u64)
+    requires { ⌜ (1 ≤ column) × (column - 1 + fieldColumns ≤ length (now text)) ⌝ }
+    ensures { λ _. ⌜ now (text .exit) ≡ put (now (text .entry)) (column - 1 + fieldColumns - length (digits n)) (digits n) ⌝ }
 {
-    let mut count: usize = 1;
+    let mut k = column - 1 + FIELD_COLUMNS;
     let mut rest = n;
     while rest >= 10 {
+        k -= 1;
+        text[k] = 48 + (rest % 10) as u8;
         rest = rest / 10;
-        count += 1;
     }
-    count
+    text[k - 1] = 48 + rest as u8;
 }
 
-// A number, right-aligned in its columns.
-fn put_field(out: &mut [u8], at: usize, n: u64) -> usize
-    ensures { λ r. ⌜ Writes out at r (field n) ⌝ }
-{
-    let spaces = [SPACE; FIELD_COLUMNS];
-    let p = put_text(out, at, &spaces[..FIELD_COLUMNS - digit_count(n)]);
-    put_digits(out, p, n)
-}
-
-// A line: the fields begin at columns 1, 24 and 48, and the spaces end at 72.
+// A line: spaces, and in them the fields.
 fn put_line(out: &mut [u8], at: usize, a: u64, b: u64, c: u64) -> usize
     ensures { λ r. ⌜ Writes out at r (line a b c) ⌝ }
 {
-    let mut p = put_field(out, at, a);
-    p = put_text(out, p, b"   ");
-    p = put_field(out, p, b);
-    p = put_text(out, p, b"    ");
-    p = put_field(out, p, c);
-    put_text(out, p, b"     \n")
+    let mut text = [SPACE; LINE_BYTES];
+    text[LINE_BYTES - 1] = LINE_FEED;
+    set_field(&mut text, FIRST_COLUMN, a);
+    set_field(&mut text, SECOND_COLUMN, b);
+    set_field(&mut text, THIRD_COLUMN, c);
+    put_text(out, at, &text)
 }
 
 // The inputs of a record, a line for each.

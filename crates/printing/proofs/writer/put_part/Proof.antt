@@ -1,4 +1,4 @@
--- `printing::writer::put_text` meets its contract: the rest of the text, written onto the bytes at hand, gives the result.
+-- `printing::writer::put_part` meets its contract: the rest of the text, written onto the bytes at hand, gives the result.
 -- Assumes nothing.
 use mathlib.Core.Path.{_≡_, refl, _∙_}
 use Prim.Native.Nat.{zero-le, _-_, _≤_}
@@ -8,8 +8,8 @@ use denote.Ref.{now}
 use lib.ListN.{length, drop}
 use Rattle.printing.specs.Output.{output, write}
 use Rattle.printing.proofs.Outputs.{text-turn, text-done}
-use Rattle.printing.proofs.writer.put_text.Statement.{statement}
-use Rattle.printing.proofs.writer.put_text.Tie as tie
+use Rattle.printing.proofs.writer.put_part.Statement.{statement}
+use Rattle.printing.proofs.writer.put_part.Tie as tie
 
 abbrev Inv-loop : tie.InvT-loop
 Inv-loop out₀ at text p₀ i₀ out p i =
@@ -36,8 +36,8 @@ returns c =
     let l = c .before .loop in
     text-done (output (l .out) (l .p)) (now (c .before .before .before .before .args .text)) (l .i) (omega arith) ∙ l .inv .2
 
-pub put-text-spec : {M : Type 1} → statement M
-put-text-spec =
+pub put-part-spec : {M : Type 1} → statement M
+put-part-spec =
     tie.close
     (tie.spec
     Inv-loop
