@@ -22,6 +22,9 @@ use Rattle.corners.specs.Good.{Sound}
 use Rattle.demands.proofs.Accepted.{accepted-sound, job-inputs, inputs-counted}
 use Rattle.demands.proofs.Histories.{Fair}
 
+pub same-itself : (c : Call) → SameJob c c
+same-itself c = record { code = refl; intervals = refl; limit = refl }
+
 module _ (memory : List ℕ) (words : ℕ) (c : Call) where
   abbrev j : Job
   j = jobOf memory words c

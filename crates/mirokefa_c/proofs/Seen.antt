@@ -4,7 +4,9 @@ use mathlib.Core.Path.{_≡_}
 use mathlib.Core.Logic.{_↔_, Iff·trans}
 use mathlib.Core.Bool.{true}
 use mathlib.Core.List.{List}
-use Prim.Native.Nat.{ℕ}
+use Prim.Native.Nat.{ℕ, _^_, _<_, _≤_}
+use native.Mathlib.Omega.{arith}
+use borrow.Author.Tests.{le-leb}
 use lib.ListN.{length}
 use Rattle.boxes.specs.Boxes.{_∈_}
 use Rattle.calls.specs.Border.{replyOf}
@@ -19,9 +21,13 @@ use Rattle.jobs.specs.declared.JobRefusal.{JobRefusal}
 use Rattle.reports.specs.Placing.{PlaceCall, placeAsks, placeQuestions, placeNumber, placed, answerNumber}
 use Rattle.reports.specs.declared.PlaceRefusal.{PlaceRefusal}
 use Rattle.reports.proofs.Numbers.{placed-numbers}
-use Rattle.reports.proofs.Promises.{places}
-use Rattle.sheets.specs.Sheet.{SheetCall, sheetAsks, sheetQuestions, sheetNumber, printed, sheetAnswerNumber}
+use Rattle.reports.specs.Readable.{readable}
+use Rattle.reports.proofs.Promises.{places, readable-inputs}
+use Rattle.sheets.specs.Sheet.{sheetText, sheetLength, sheetBytes, SheetCall, sheetCallOf, sheetAsks, sheetQuestions, sheetNumber, printed, sheetAnswerNumber}
 use Rattle.sheets.specs.declared.SheetRefusal.{SheetRefusal}
+use Rattle.sheets.specs.declared.SheetRefusal.the-variants.{Records, Short}
+use Rattle.sheets.specs.declared.SheetAnswer.the-variants.{Printed}
+use Rattle.sheets.proofs.Lengths.{text-length, bytes-known}
 use Rattle.sheets.proofs.Numbers.{sheet-numbers}
 use Rattle.sheets.proofs.Promises.{prints-sheet}
 use Rattle.serving.specs.Served.{served, outcomeOf}
@@ -67,3 +73,15 @@ module _ (c : SheetCall) where
 
   pub sheet-refused : (r : SheetRefusal) → (sheetAnswerNumber (printed c .answer) ≡ sheetNumber r) ↔ FirstNo (sheetAsks c) sheetQuestions r
   sheet-refused r = Iff·trans (sheet-numbers (printed c .answer) .refused r) (prints-sheet c .refused r)
+
+-- of `mirokefa_sheet_bytes`: of a report that passes question 12, it is the text's length, and a sheet of so many bytes is never too short
+module _ (n : ℕ) (report : List ℕ) (passes : readable n report ≡ true) (lent : length report < 2 ^ 64) where
+  pub bytes-seen : sheetBytes n (length report) ≡ length (sheetText n report)
+  bytes-seen = bytes-known n report (readable-inputs n report passes .1) lent
+
+  pub bytes-enough : (sheet : List ℕ) → sheetBytes n (length report) ≤ length sheet → printed (sheetCallOf n report sheet) .answer ≡ Printed
+  bytes-enough sheet room = prints-sheet (sheetCallOf n report sheet) .accepted .1 yes
+    where
+      yes : (q : SheetRefusal) → sheetAsks (sheetCallOf n report sheet) q ≡ true
+      yes Records = unfold sheetAsks in passes
+      yes Short = unfold sheetAsks in le-leb (sheetLength n (length report)) (length sheet) (omega (arith, room, bytes-seen, text-length n report))

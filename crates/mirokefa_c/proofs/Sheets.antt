@@ -2,28 +2,19 @@
 -- Assumes nothing.
 use mathlib.Core.Path.{sym, subst}
 use mathlib.Core.List.{List}
-use Prim.Native.Nat.{ℕ, _≤_}
+use Prim.Native.Nat.{ℕ}
 use lib.ListN.{length}
 use Rattle.boxes.specs.Boxes.{keep, _∈_}
-use Rattle.listing.specs.Listing.{listing}
-use Rattle.calls.specs.Call.{Call, inputsOf, jobOf, page}
+use Rattle.calls.specs.Call.{Call}
 use Rattle.calls.specs.Engine.{Lent, Leaves, Exchange, History}
-use Rattle.calls.specs.Together.{isAccepted, bytesWritten}
+use Rattle.calls.specs.Together.{isAccepted}
 use Rattle.demands.proofs.Demands.{leaves-meets}
 use Rattle.reports.specs.Placed.{OwnReport}
-use Rattle.sheets.specs.Printed.{PrintedAs}
+use Rattle.sheets.specs.Printed.{PagePrinted, ListingPrinted}
 use Rattle.sheets.proofs.Own.{page-printed, own-printed}
 use Rattle.serving.specs.Served.{tableWords}
 use Rattle.serving.specs.Server.{ServedCall, Made, exchangesOf}
 use Rattle.serving.proofs.Demands.{Brings, zeros-length, history, all-accepted, all-lent}
-
--- the page that a call with inputs wrote, and a complete report of a job
-abbrev PagePrinted : List ℕ → ℕ → Exchange → Type 0
-PagePrinted memory words x = 1 ≤ inputsOf (x .call)
-    → PrintedAs (inputsOf (x .call)) (bytesWritten x) (x .call .first) (page (jobOf memory words (x .call)) (x .call))
-
-abbrev ListingPrinted : List ℕ → ℕ → Call → List ℕ → Type 0
-ListingPrinted memory words c report = PrintedAs (inputsOf c) report 0 (listing (jobOf memory words c))
 
 -- calls of `mirokefa_explore` on one memory and one table
 module _ {memory table : List ℕ} {xs : List Exchange} (lent : (x : Exchange) → x ∈ xs → Lent memory table (x .call)) (made : History Leaves memory table xs) where

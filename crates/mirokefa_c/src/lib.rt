@@ -1,4 +1,4 @@
-// The functions for C: the exploration of a lent job, the server's call on job blocks, rows placed in a report, and a report printed, as `extern "C"` with the answer in numbers.
+// The functions for C: the exploration of a lent job, the server's call on job blocks, rows placed in a report, a report printed and the length of that, as `extern "C"` with the answer in numbers.
 // Each slice comes as a pointer and its length in elements.
 // The archive of this crate, libmirokefa_c.a, is what include/mirokefa.h declares.
 use calls::Outcome;
@@ -12,12 +12,10 @@ use sheets::asking::sheet_bytes;
 use sheets::sheet::print_sheet;
 use sheets::sheet_answer_number;
 ghost use mathlib.Core.Path.{_≡_};
-ghost use Prim.Native.Nat.{min};
 ghost use Rattle.calls.specs.Border.{replyOf, callLent, calledOn};
 ghost use Rattle.reports.specs.Placing.{answerNumber, placedOn};
-ghost use Rattle.riscu.specs.Word.{maxWord};
 ghost use Rattle.serving.specs.Served.{outcomeOf, servedOn};
-ghost use Rattle.sheets.specs.Sheet.{sheetLength, sheetAnswerNumber, printedOn};
+ghost use Rattle.sheets.specs.Sheet.{sheetBytes, sheetAnswerNumber, printedOn};
 
 // Explores a job and writes a page of its paths, or refuses the call.
 #[no_mangle]
@@ -66,7 +64,7 @@ pub extern "C" fn mirokefa_place(
 // The length of a report's sheet, or MAX if it is no word.
 #[no_mangle]
 pub extern "C" fn mirokefa_sheet_bytes(inputs: u64, report_bytes: usize) -> usize
-    ensures { λ r. ⌜ r ≡ min (sheetLength inputs «report_bytes») maxWord ⌝ }
+    ensures { λ r. ⌜ r ≡ sheetBytes inputs «report_bytes» ⌝ }
 {
     sheet_bytes(inputs, report_bytes)
 }

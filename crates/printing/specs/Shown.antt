@@ -33,5 +33,6 @@ unfoldable pub numbered : {A : Type 0} → (ℕ → A → List ℕ) → ℕ → 
 numbered text n [] = []
 numbered text n (x ∷ xs) = text n x ++ numbered text (n + 1) xs
 
+-- the paths numbered from n on
 unfoldable pub listingOf : ℕ → List Path → Bool → List ℕ
 listingOf n ps more = firstLine (length ps) more ++ numbered lineOf n ps

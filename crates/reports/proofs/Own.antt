@@ -33,7 +33,7 @@ use Rattle.demands.proofs.Complete.{listing-complete}
 use Rattle.demands.proofs.Demands.{demand-2, demand-3, history-fair, leaves-meets}
 use Rattle.demands.proofs.Faithful.{listing-faithful}
 use Rattle.demands.proofs.Histories.{Fair}
-use Rattle.demands.proofs.Joined.{fair-sound, fair-few, fair-counted, fair-limit, pages-some}
+use Rattle.demands.proofs.Joined.{same-itself, fair-sound, fair-few, fair-counted, fair-limit, pages-some}
 use Rattle.demands.proofs.Words.{path-fits}
 use Rattle.reports.specs.Readable.{recordsOf, hasCount, readable}
 use Rattle.reports.specs.Placing.{rowsIn, rowAt, between, holds, noPath, placing, PlaceCall, placeCallOf, placeAsks, placed}
@@ -45,11 +45,10 @@ use Rattle.reports.proofs.Written.{Writable, report-length, report-reco
 use Rattle.reports.proofs.Listed.{placing-first, placing-none}
 use Rattle.reports.proofs.Promises.{places, row-answer}
 
--- a sound job with 1 to 8 inputs whose whole listing is a report
+-- a sound job with at most 8 inputs whose whole listing is a report
 record Reportable (j : Job) : Type 0 where
   sound : Sound j (j .box)
   limit : j .limit < 2 ^ 64
-  some-input : 1 ≤ length (j .box)
   few : length (j .box) ≤ mostInputs
   size : length (records 0 (listing j)) < 2 ^ 64
 
@@ -164,7 +163,6 @@ module _ (E : Engine) (meets : Meets E) {memory table : List ℕ} {xs : List Exc
       record {
         sound = fair-sound memory (length table) c f s;
         limit = fair-limit memory (length table) c f s;
-        some-input = omega (arith, counted, own .inputs);
         few = fair-few memory (length table) c f s;
         size = rw report-is at (own .size);
       }
@@ -214,7 +212,7 @@ one-page x lent leaves accepted inputs from-0 no-further =
     let used = recordBytes (inputsOf (x .call)) * written (x .left .reply .answer) in
     record {
       inputs = inputs;
-      pages = last (record { code = refl; intervals = refl; limit = refl }) from-0 no-further;
+      pages = last (same-itself (x .call)) from-0 no-further;
       bytes = sym (append-nil (bytesWritten x));
       size = rw (length-take used (x .left .reply .report)) (omega (arith, demand-2 Leaves leaves-meets lent leaves accepted .size, lent .typed .bytes));
     }

@@ -1,4 +1,4 @@
--- A report of written records, read back: each tells its path, and question 12 never turns it away.
+-- A report of written records, read back: each tells its path, and with 1 to 8 inputs question 12 never turns it away.
 -- Assumes nothing.
 use mathlib.Core.Path.{_≡_, _∙_}
 use mathlib.Core.Bool.{true}

@@ -72,7 +72,7 @@ pub record PlacedInNumbers (a : Placed) : Type 0 where
 
 -- a complete report of our own: the pages that accepted calls wrote of the job of c, from path 0 on until none remains, joined
 pub record OwnReport (c : Call) (accepted : List Exchange) (report : List ℕ) : Type 0 where
-  -- without inputs there are no rows
+  -- without inputs question 12 turns it away
   pub inputs : 1 ≤ inputsOf c
   pub pages : Pages c 0 accepted
   pub bytes : report ≡ flatMap bytesWritten accepted

@@ -24,6 +24,6 @@ readable n report =
     (leb 1 n && leb n mostInputs)
     && (eqb (length report % recordBytes n) 0 && (every (hasCount n) (recordsOf n report) && checksAgree report))
 
--- its number
+-- the number of question 12
 abbrev pub recordsNumber : ℕ
 recordsNumber = 12

@@ -12,11 +12,11 @@ use Rattle.blocks.specs.Writing.{put}
 use Rattle.blocks.proofs.Puts.{put-none}
 use Rattle.printing.specs.Printed.{ascii, digit, digitsIn, digits}
 use Rattle.printing.proofs.Digits.{shown, digits-show, digits-length, digits-more, digits-one, one-digit, tenth-digits}
-use Rattle.sheets.specs.Line.{space, spaces, fieldColumns, lineColumns, secondColumn, thirdColumn, field, upTo, columns, line, lineBytes}
+use Rattle.sheets.specs.Line.{space, spaces, fieldColumns, lineColumns, secondColumn, thirdColumn, sheetField, upTo, columns, sheetLine, lineBytes}
 use Rattle.sheets.specs.Printed.{InColumns}
 
-pub field-length : (n : ℕ) → length (field n) ≡ fieldColumns
-unfolding field
+pub field-length : (n : ℕ) → length (sheetField n) ≡ fieldColumns
+unfolding sheetField
 field-length n = rw (length-append, length-replicate) (omega (arith, digits-length n))
 
 skip : (xs ys : List ℕ) (m n : ℕ) → length xs ≡ m → drop (m + n) (xs ++ ys) ≡ drop n ys
@@ -26,16 +26,16 @@ front-of : (xs ys : List ℕ) (m : ℕ) → length xs ≡ m → take m (xs ++ ys
 front-of xs ys m e = rw (← e) (take-append-seam xs ys)
 
 -- behind the spaces the number stands whole: no field is cut
-pub field-shows : (n : ℕ) → n < 2 ^ 64 → shown 0 (drop (fieldColumns - length (digits n)) (field n)) ≡ n
-unfolding field
+pub field-shows : (n : ℕ) → n < 2 ^ 64 → shown 0 (drop (fieldColumns - length (digits n)) (sheetField n)) ≡ n
+unfolding sheetField
 field-shows n h =
     let k = fieldColumns - length (digits n) in
     let z : k + 0 ≡ k = omega arith in
     rw (rw z at (skip (spaces k) (digits n) k 0 (length-replicate k _))) (digits-show n h)
 
 -- MAX takes all its columns
-pub max-fits : field maxWord ≡ digits maxWord
-unfolding field digits digitsIn
+pub max-fits : sheetField maxWord ≡ digits maxWord
+unfolding sheetField digits digitsIn
 max-fits = refl
 
 -- Digits written from the last one back.
@@ -74,60 +74,60 @@ up-to column k text e = let z : column - 1 - length text ≡ k = omega arith in 
 module _ (a b c : ℕ) where
   -- what follows the first field, and the second
   abbrev behind-second : List ℕ
-  behind-second = spaces 4 ++ (field c ++ spaces 5)
+  behind-second = spaces 4 ++ (sheetField c ++ spaces 5)
 
   abbrev behind-first : List ℕ
-  behind-first = spaces 3 ++ (field b ++ behind-second)
+  behind-first = spaces 3 ++ (sheetField b ++ behind-second)
 
-  columns-are : columns a b c ≡ field a ++ behind-first
+  columns-are : columns a b c ≡ sheetField a ++ behind-first
   unfolding columns
   columns-are =
-      let one = field a ++ spaces 3 in
-      let two = (one ++ field b) ++ spaces 4 in
+      let one = sheetField a ++ spaces 3 in
+      let two = (one ++ sheetField b) ++ spaces 4 in
       let length-one : length one ≡ 23 = rw (length-append, field-length a) in
       let length-two : length two ≡ 47 = rw (length-append, length-append, length-one, field-length b) in
       rw (
-        up-to secondColumn 3 (field a) (rw (field-length a)),
-        up-to thirdColumn 4 (one ++ field b) (rw (length-append, length-one, field-length b)),
-        up-to (lineColumns + 1) 5 (two ++ field c) (rw (length-append, length-two, field-length c)),
+        up-to secondColumn 3 (sheetField a) (rw (field-length a)),
+        up-to thirdColumn 4 (one ++ sheetField b) (rw (length-append, length-one, field-length b)),
+        up-to (lineColumns + 1) 5 (two ++ sheetField c) (rw (length-append, length-two, field-length c)),
       )
       (simp append-assoc)
 
   -- as the code writes it
-  pub line-is : line a b c ≡ field a ++ (ascii "   " ++ (field b ++ (ascii "    " ++ (field c ++ ascii "     \n"))))
-  unfolding line
+  pub line-is : sheetLine a b c ≡ sheetField a ++ (ascii "   " ++ (sheetField b ++ (ascii "    " ++ (sheetField c ++ ascii "     \n"))))
+  unfolding sheetLine
   line-is = rw columns-are (simp append-assoc)
 
-  pub line-length : length (line a b c) ≡ lineBytes
+  pub line-length : length (sheetLine a b c) ≡ lineBytes
   line-length = rw line-is (simp (length-append, field-length) (omega arith))
 
-  to-first : (n : ℕ) → drop (20 + n) (field a ++ behind-first) ≡ drop n behind-first
-  to-first n = skip (field a) behind-first 20 n (field-length a)
+  to-first : (n : ℕ) → drop (20 + n) (sheetField a ++ behind-first) ≡ drop n behind-first
+  to-first n = skip (sheetField a) behind-first 20 n (field-length a)
 
-  to-second : (n : ℕ) → drop (23 + n) (field a ++ behind-first) ≡ drop n (field b ++ behind-second)
+  to-second : (n : ℕ) → drop (23 + n) (sheetField a ++ behind-first) ≡ drop n (sheetField b ++ behind-second)
   to-second n =
       let z : 23 + n ≡ 20 + (3 + n) = omega arith in
-      rw z (to-first (3 + n) ∙ skip (spaces 3) (field b ++ behind-second) 3 n refl)
+      rw z (to-first (3 + n) ∙ skip (spaces 3) (sheetField b ++ behind-second) 3 n refl)
 
-  to-third : (n : ℕ) → drop (47 + n) (field a ++ behind-first) ≡ drop n (field c ++ spaces 5)
+  to-third : (n : ℕ) → drop (47 + n) (sheetField a ++ behind-first) ≡ drop n (sheetField c ++ spaces 5)
   to-third n =
       let z : 47 + n ≡ 23 + (20 + (4 + n)) = omega arith in
       rw z (
       to-second (20 + (4 + n))
-      ∙ skip (field b) behind-second 20 (4 + n) (field-length b)
-      ∙ skip (spaces 4) (field c ++ spaces 5) 4 n refl
+      ∙ skip (sheetField b) behind-second 20 (4 + n) (field-length b)
+      ∙ skip (spaces 4) (sheetField c ++ spaces 5) 4 n refl
       )
 
   pub in-columns : InColumns a b c (columns a b c)
   in-columns =
       rw columns-are record {
         size = simp (length-append, field-length) (omega arith);
-        first = front-of (field a) behind-first 20 (field-length a);
+        first = front-of (sheetField a) behind-first 20 (field-length a);
         behind-first = ap (take 3) (to-first 0);
-        second = ap (take 20) (to-second 0) ∙ front-of (field b) behind-second 20 (field-length b);
-        behind-second = ap (take 4) (to-second 20 ∙ skip (field b) behind-second 20 0 (field-length b));
-        third = ap (take 20) (to-third 0) ∙ front-of (field c) (spaces 5) 20 (field-length c);
-        behind-third = ap (take 5) (to-third 20 ∙ skip (field c) (spaces 5) 20 0 (field-length c));
+        second = ap (take 20) (to-second 0) ∙ front-of (sheetField b) behind-second 20 (field-length b);
+        behind-second = ap (take 4) (to-second 20 ∙ skip (sheetField b) behind-second 20 0 (field-length b));
+        third = ap (take 20) (to-third 0) ∙ front-of (sheetField c) (spaces 5) 20 (field-length c);
+        behind-third = ap (take 5) (to-third 20 ∙ skip (sheetField c) (spaces 5) 20 0 (field-length c));
       }
 
 -- The fields set into a line of spaces.
@@ -138,8 +138,8 @@ split i j = sym (replicate-append-replicate i j space)
 -- behind m spaces more, with k spaces left behind it
 field-set : (front tail : List ℕ) (f m k n : ℕ) → length front ≡ f
     → put (front ++ (spaces (m + (fieldColumns + k)) ++ tail)) (f + m + fieldColumns - length (digits n)) (digits n)
-    ≡ (front ++ (spaces m ++ field n)) ++ (spaces k ++ tail)
-unfolding put field
+    ≡ (front ++ (spaces m ++ sheetField n)) ++ (spaces k ++ tail)
+unfolding put sheetField
 field-set front tail f m k n e =
     let d = length (digits n) in
     let j = fieldColumns - d in
@@ -159,11 +159,11 @@ field-set front tail f m k n e =
 
 -- the line as the code sets it
 pub line-set : (a b c : ℕ) {t u v : List ℕ} → t ≡ put (spaces lineColumns ++ ascii "\n") (20 - length (digits a)) (digits a)
-    → u ≡ put t (43 - length (digits b)) (digits b) → v ≡ put u (67 - length (digits c)) (digits c) → v ≡ line a b c
+    → u ≡ put t (43 - length (digits b)) (digits b) → v ≡ put u (67 - length (digits c)) (digits c) → v ≡ sheetLine a b c
 line-set a b c e f g =
     let end = ascii "\n" in
     let one = e ∙ field-set [] end 0 0 52 a refl in
-    let two = rw one at f ∙ field-set (field a) end 20 3 29 b (field-length a) in
-    let front = field a ++ (spaces 3 ++ field b) in
+    let two = rw one at f ∙ field-set (sheetField a) end 20 3 29 b (field-length a) in
+    let front = sheetField a ++ (spaces 3 ++ sheetField b) in
     let three = rw two at g ∙ field-set front end 43 4 5 c (rw (length-append, length-append, field-length a, field-length b)) in
     three ∙ rw (line-is a b c) (simp append-assoc)

@@ -13,7 +13,7 @@ use Rattle.blocks.specs.Record.{padded, firstWords, secondWords, recordOf, reco
 use Rattle.calls.specs.Call.{firstNo}
 use Rattle.printing.specs.Printed.{ascii, digitsIn, digits}
 use Rattle.reports.specs.Readable.{readable}
-use Rattle.sheets.specs.Line.{field, columns, line}
+use Rattle.sheets.specs.Line.{sheetField, columns, sheetLine}
 use Rattle.sheets.specs.Sheet.{pathLine, inputLine, inputLines, recordLines, sheetText, sheetLength, sheetCallOf, sheetAsks, printedBy, printed, sheetAnswerNumber}
 
 -- a record with this number, kind and reason, and these lows and highs
@@ -47,7 +47,7 @@ accepted =
     -- a foreign record's words as they stand: a reason with kind 1, and a low above its high
     ∷ on 1 (recordWith 10000000000000000000 1 9 (20 ∷ []) (10 ∷ [])) 146
     -- a longer sheet, and no record
-    ∷ on 1 (recordWith 1 1 0 (10 ∷ []) (255 ∷ [])) 148
+    ∷ on 1 one 148
     ∷ on 3 [] 0
     ∷ on 3 [] 3
     ∷ []
@@ -63,7 +63,7 @@ sheets-printed : accepted
     ∷ (0 ∷ [])
     ∷ (0 ∷ ascii "###")
     ∷ []
-unfolding accepted records recordOf firstWords secondWords on printed printedBy sheetAsks firstNo readable every each checksAgree checkFrom numberOf bytesOf block from flatMap sheetText recordLines pathLine inputLines inputLine line columns field digits digitsIn
+unfolding accepted records recordOf firstWords secondWords on printed printedBy sheetAsks firstNo readable every each checksAgree checkFrom numberOf bytesOf block from flatMap sheetText recordLines pathLine inputLines inputLine sheetLine columns sheetField digits digitsIn
 sheets-printed = refl
 
 unfoldable refused : List (List ℕ)
@@ -95,10 +95,10 @@ sheets-refused : refused
     ∷ (12 ∷ replicate 146 35)
     ∷ (12 ∷ replicate 146 35)
     ∷ []
-unfolding refused on printed printedBy sheetAsks firstNo readable every each checksAgree checkFrom numberOf bytesOf block from flatMap sheetText recordLines pathLine inputLines inputLine line columns field digits digitsIn
+unfolding refused on printed printedBy sheetAsks firstNo readable every each checksAgree checkFrom numberOf bytesOf block from flatMap sheetText recordLines pathLine inputLines inputLine sheetLine columns sheetField digits digitsIn
 sheets-refused = refl
 
--- the length is that of no more than whole records, up to the last that is a word
+-- a part of a record does not count; the last is the longest of 14 inputs that is a word
 lengths : sheetLength 1 0
     ∷ sheetLength 1 1023
     ∷ sheetLength 1 1024

@@ -9,23 +9,23 @@ use borrow.Author.Tests.{le-leb}
 use lib.ListN.{length, drop}
 use Rattle.boxes.specs.Boxes.{keep, _∈_}
 use Rattle.listing.specs.Group.{Job}
-use Rattle.listing.specs.Listing.{Path, listing}
-use Rattle.blocks.specs.Record.{mostInputs, records}
+use Rattle.listing.specs.Listing.{Path}
+use Rattle.blocks.specs.Record.{records}
 use Rattle.calls.specs.Call.{Call, inputsOf, jobOf, page}
 use Rattle.calls.specs.Engine.{Engine, Lent, Meets, Exchange, History}
 use Rattle.calls.specs.Together.{isAccepted, bytesWritten}
 use Rattle.calls.proofs.Asked.{all-yes}
-use Rattle.demands.proofs.Accepted.{accepted-sound, inputs-counted, job-inputs, paths-fit}
+use Rattle.demands.proofs.Accepted.{paths-fit}
 use Rattle.demands.proofs.Demands.{history-fair}
 use Rattle.demands.proofs.Histories.{Fair}
-use Rattle.demands.proofs.Joined.{bytes-are}
+use Rattle.demands.proofs.Joined.{same-itself, fair-sound, fair-few, fair-counted, bytes-are}
 use Rattle.demands.proofs.Reported.{page-few, page-fits, page-inputs}
 use Rattle.reports.specs.Readable.{readable}
 use Rattle.reports.specs.Placed.{OwnReport}
 use Rattle.reports.proofs.Own.{report-is, own-writable, own-readable}
 use Rattle.reports.proofs.Written.{Writable, written-readable}
 use Rattle.sheets.specs.Sheet.{SheetCall, sheetCallOf, lengthOf, sheetLeft, sheetAsks, sheetQuestions}
-use Rattle.sheets.specs.Printed.{PrintedAs}
+use Rattle.sheets.specs.Printed.{PrintedAs, PagePrinted, ListingPrinted}
 use Rattle.sheets.specs.declared.SheetRefusal.{SheetRefusal}
 use Rattle.sheets.specs.declared.SheetRefusal.the-variants.{Records, Short}
 use Rattle.sheets.specs.declared.SheetAnswer.the-variants.{Printed}
@@ -59,13 +59,10 @@ module _ (E : Engine) (meets : Meets E) {memory table : List ℕ} {xs : List Exc
     fair : Fair memory (length table) x
     fair = history-fair E meets lent history x m
 
-    few : length (j .box) ≤ mostInputs
-    few = job-inputs memory (length table) c (fair .passes)
-
     page-is : bytesWritten x ≡ records (c .first) (page j c)
     page-is =
-        let sound = accepted-sound memory (length table) c (fair .passes) (fair .memory-words) (fair .typed .intervals) in
-        bytes-are memory (length table) c (paths-fit j sound few) x fair (record { code = refl; intervals = refl; limit = refl })
+        let few = fair-few memory (length table) c fair (same-itself c) in
+        bytes-are memory (length table) c (paths-fit j (fair-sound memory (length table) c fair (same-itself c)) few) x fair (same-itself c)
 
     page-writable : Writable (inputsOf c) (c .first) (page j c)
     page-writable =
@@ -75,14 +72,14 @@ module _ (E : Engine) (meets : Meets E) {memory table : List ℕ} {xs : List Exc
           inputs = page-inputs memory (length table) c (fair .memory-words) (fair .typed) (fair .passes);
         }
 
-    pub page-printed : 1 ≤ inputsOf c → PrintedAs (inputsOf c) (bytesWritten x) (c .first) (page j c)
+    pub page-printed : PagePrinted memory (length table) x
     page-printed some-input =
-        let counted = inputs-counted memory (length table) c (fair .passes) in
+        let counted = fair-counted memory (length table) c fair (same-itself c) in
+        let few = fair-few memory (length table) c fair (same-itself c) in
         rw page-is (written-printed page-writable (written-readable page-writable some-input (omega (arith, counted, few))))
 
   -- a complete report
-  pub own-printed : (c : Call) (report : List ℕ) → OwnReport c (keep isAccepted xs) report
-      → PrintedAs (inputsOf c) report 0 (listing (jobOf memory (length table) c))
+  pub own-printed : (c : Call) (report : List ℕ) → OwnReport c (keep isAccepted xs) report → ListingPrinted memory (length table) c report
   own-printed c report own =
       let is = report-is E meets lent history c report own in
       rw is (written-printed (own-writable E meets lent history c report own) (rw is at (own-readable E meets lent history c report own)))

@@ -77,6 +77,7 @@ module _ (c : SheetCall) where
         refused = λ r. (λ e. first r .0 (refused-by r e), λ f. rw (left-refused r (first r .1 f)));
         accepted = (λ e q. all .0 (printed-by e) q (among-sheet-questions q), λ h. rw (left-printed (all .1 (λ q m. h q))));
         kept = λ r e. rw (left-refused r (refused-by r e));
+        known = size;
         text = λ e. rw (left-printed (printed-by e), ← size) (take-append-seam (textOf c) _);
         rest = λ e. rw (left-printed (printed-by e), ← size) (drop-append-seam (textOf c) _);
       }

@@ -16,7 +16,7 @@ use Rattle.blocks.proofs.Reading.{Fits}
 use Rattle.printing.specs.Output.{Output, write}
 use Rattle.printing.proofs.Told.{box-told, records-told}
 use Rattle.reports.proofs.Written.{Writable, report-records}
-use Rattle.sheets.specs.Line.{line}
+use Rattle.sheets.specs.Line.{sheetLine}
 use Rattle.sheets.specs.Sheet.{pathLine, inputLine, inputLines, recordLines, sheetText}
 use Rattle.sheets.specs.Shown.{inputLineOf, pathLinesOf, sheetOf}
 
@@ -35,14 +35,14 @@ text-is n report = flat-map (recordLines n) (recordAt n report) (from 0 (records
 
 -- a path's line from the words that were read
 pub path-written : (s : Output) (bytes : List ℕ) {u : Output} {number kind reason : ℕ} → number ≡ wordAt bytes layout.number → kind ≡ wordAt bytes layout.kind
-    → reason ≡ wordAt bytes layout.reason → u ≡ write s (line number kind reason) → u ≡ write s (pathLine bytes)
+    → reason ≡ wordAt bytes layout.reason → u ≡ write s (sheetLine number kind reason) → u ≡ write s (pathLine bytes)
 unfolding pathLine
 path-written s bytes n k r e = rw (← n, ← k, ← r) e
 
 -- bytes that tell of path k that it is p
 record-told : (n : ℕ) (bytes : List ℕ) (k : ℕ) (p : Path) → Fits k p → Tells bytes k p → length (p .box) ≡ n → recordLines n bytes ≡ pathLinesOf k p
 unfolding recordLines pathLine inputLines inputLine pathLinesOf inputLineOf
-record-told n bytes k p f t e = rw (t .number, t .kind, t .reason, ← e, box-told line bytes k p t (f .inputs))
+record-told n bytes k p f t e = rw (t .number, t .kind, t .reason, ← e, box-told sheetLine bytes k p t (f .inputs))
 
 -- the records of some paths, numbered from first on
 pub sheet-told : {n first : ℕ} {ps : List Path} → Writable n first ps → sheetText n (records first ps) ≡ sheetOf first ps

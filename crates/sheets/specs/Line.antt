@@ -1,6 +1,6 @@
 -- Document 02, No. 6: a line of a sheet, with three numbers in their columns.
 use Prim.Native.Nat.{ℕ, _+_, _-_}
-use mathlib.Core.List.{List, _++_}
+use mathlib.Core.List.{List, [], _++_}
 use lib.ListN.{length, replicate}
 use Rattle.printing.specs.Printed.{digits, ascii}
 
@@ -29,20 +29,23 @@ abbrev pub thirdColumn : ℕ
 thirdColumn = 48
 
 -- a number, right-aligned in its columns
-unfoldable pub field : ℕ → List ℕ
-field n = spaces (fieldColumns - length (digits n)) ++ digits n
+unfoldable pub sheetField : ℕ → List ℕ
+sheetField n = spaces (fieldColumns - length (digits n)) ++ digits n
 
 -- what follows a text begins at this column: the rest are spaces
 abbrev pub upTo : ℕ → List ℕ → List ℕ
 upTo column text = text ++ spaces (column - 1 - length text)
 
+abbrev pub withField : ℕ → ℕ → List ℕ → List ℕ
+withField column n text = upTo column text ++ sheetField n
+
 -- exactly 72 columns
 unfoldable pub columns : ℕ → ℕ → ℕ → List ℕ
-columns a b c = upTo (lineColumns + 1) (upTo thirdColumn (upTo secondColumn (field a) ++ field b) ++ field c)
+columns a b c = upTo (lineColumns + 1) (withField thirdColumn c (withField secondColumn b (withField firstColumn a [])))
 
 -- and a line feed
-unfoldable pub line : ℕ → ℕ → ℕ → List ℕ
-line a b c = columns a b c ++ ascii "\n"
+unfoldable pub sheetLine : ℕ → ℕ → ℕ → List ℕ
+sheetLine a b c = columns a b c ++ ascii "\n"
 
 -- bytes of a line
 abbrev pub lineBytes : ℕ

@@ -5,14 +5,14 @@ use Rattle.boxes.specs.Boxes.{Interval}
 use Rattle.listing.specs.Listing.{Path}
 use Rattle.listing.specs.Numbers.{kindNumber, reasonWord}
 use Rattle.printing.specs.Shown.{numbered}
-use Rattle.sheets.specs.Line.{line}
+use Rattle.sheets.specs.Line.{sheetLine}
 
 unfoldable pub inputLineOf : ℕ → Interval → List ℕ
-inputLineOf i v = line i (v .low) (v .high)
+inputLineOf i v = sheetLine i (v .low) (v .high)
 
 -- path n, with a reason of 0 where it has none; its inputs are numbered from 0
 unfoldable pub pathLinesOf : ℕ → Path → List ℕ
-pathLinesOf n p = line n (kindNumber (p .end)) (reasonWord (p .end)) ++ numbered inputLineOf 0 (p .box)
+pathLinesOf n p = sheetLine n (kindNumber (p .end)) (reasonWord (p .end)) ++ numbered inputLineOf 0 (p .box)
 
 -- the paths numbered from n on
 abbrev pub sheetOf : ℕ → List Path → List ℕ

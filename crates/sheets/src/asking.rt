@@ -4,11 +4,7 @@ use crate::SheetRefusal;
 use blocks::report::record_bytes;
 use reports::asking::is_readable;
 ghost use mathlib.Core.Path.{_≡_};
-ghost use Prim.Native.Nat.{min};
-ghost use lib.Dec.{leb};
-ghost use lib.ListN.{length};
-ghost use Rattle.riscu.specs.Word.{maxWord};
-ghost use Rattle.sheets.specs.Sheet.{sheetLength, printedOn};
+ghost use Rattle.sheets.specs.Sheet.{sheetBytes, sheetFits, printedOn};
 
 // 72 columns and a line feed.
 pub(crate) const LINE_BYTES: usize = 73;
@@ -18,7 +14,7 @@ const TOO_LONG: usize = 18446744073709551615;
 
 // The length of a sheet, or MAX if it is no word.
 pub fn sheet_bytes(inputs: u64, report_bytes: usize) -> usize
-    ensures { λ r. ⌜ r ≡ min (sheetLength inputs «report_bytes») maxWord ⌝ }
+    ensures { λ r. ⌜ r ≡ sheetBytes inputs «report_bytes» ⌝ }
 {
     let n = inputs as usize;
     let records = report_bytes / record_bytes(n);
@@ -31,9 +27,9 @@ pub fn sheet_bytes(inputs: u64, report_bytes: usize) -> usize
     TOO_LONG
 }
 
-// Question 14.
+// Question 14; if the length is no word, no sheet is long enough.
 fn sheet_fits(inputs: u64, report: &[u8], sheet: &[u8]) -> bool
-    ensures { λ r. ⌜ r ≡ leb (sheetLength inputs (length (now (report .entry)))) (length (now (sheet .entry))) ⌝ }
+    ensures { λ r. ⌜ r ≡ sheetFits inputs (now (report .entry)) (now (sheet .entry)) ⌝ }
 {
     let bytes = sheet_bytes(inputs, report.len());
     (bytes < TOO_LONG) & (bytes <= sheet.len())

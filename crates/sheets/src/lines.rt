@@ -16,7 +16,7 @@ ghost use Rattle.blocks.specs.Report.{recordsIn, recordAt};
 ghost use Rattle.blocks.specs.Writing.{put};
 ghost use Rattle.printing.specs.Output.{Writes, fitted};
 ghost use Rattle.printing.specs.Printed.{digits};
-ghost use Rattle.sheets.specs.Line.{fieldColumns, line};
+ghost use Rattle.sheets.specs.Line.{fieldColumns, sheetLine};
 ghost use Rattle.sheets.specs.Sheet.{inputLines, recordLines, sheetText};
 
 const FIELD_COLUMNS: usize = 20;
@@ -48,8 +48,8 @@ fn set_field(text: &mut [u8], column: usize, n: u64)
 }
 
 // A line: spaces, and in them the fields.
-fn put_line(out: &mut [u8], at: usize, a: u64, b: u64, c: u64) -> usize
-    ensures { λ r. ⌜ Writes out at r (line a b c) ⌝ }
+fn put_sheet_line(out: &mut [u8], at: usize, a: u64, b: u64, c: u64) -> usize
+    ensures { λ r. ⌜ Writes out at r (sheetLine a b c) ⌝ }
 {
     let mut text = [SPACE; LINE_BYTES];
     text[LINE_BYTES - 1] = LINE_FEED;
@@ -69,7 +69,7 @@ fn put_inputs(report: &[u8], inputs: usize, k: usize, out: &mut [u8], at: usize)
     while i < inputs {
         let low = input_low(report, inputs, k, i);
         let high = input_high(report, inputs, k, i);
-        p = put_line(out, p, i as u64, low, high);
+        p = put_sheet_line(out, p, i as u64, low, high);
         i += 1;
     }
     p
@@ -83,7 +83,7 @@ fn put_record(report: &[u8], inputs: usize, k: usize, out: &mut [u8], at: usize)
     let number = record_word(report, inputs, k, NUMBER);
     let kind = record_word(report, inputs, k, KIND);
     let reason = record_word(report, inputs, k, REASON);
-    let p = put_line(out, at, number, kind, reason);
+    let p = put_sheet_line(out, at, number, kind, reason);
     put_inputs(report, inputs, k, out, p)
 }
 

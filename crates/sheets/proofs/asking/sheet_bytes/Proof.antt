@@ -2,7 +2,7 @@
 -- Assumes nothing.
 use native.Mathlib.Omega.{arith}
 use borrow.Author.Needs.{needs}
-use Rattle.sheets.proofs.Lengths.{count-word, length-none, length-word, length-is, length-more}
+use Rattle.sheets.proofs.Lengths.{inputs-word, length-none, length-word, length-is, length-more}
 use Rattle.sheets.proofs.asking.sheet_bytes.Statement.{statement}
 use Rattle.sheets.proofs.asking.sheet_bytes.Tie as tie
 
@@ -12,7 +12,7 @@ returns c = length-none _ _ (c .before .record-bytes .ensures) (c .if1 .taken)
 add-result : tie.Need-add-result
 add-result c =
     let a = c .before .before .before .args in
-    let l = count-word (a .inputs) (a .report-bytes) (c .before .before .record-bytes .ensures) (omega arith) (omega arith) in
+    let l = inputs-word (a .inputs) (a .report-bytes) (c .before .before .record-bytes .ensures) (omega arith) (omega arith) in
     omega arith
 
 mul-result : tie.Need-mul-result

@@ -36,7 +36,7 @@ input-high-requires c κs = let entry = c .before .before .before .before .befor
 loop-again : tie.Need-loop-again Inv-loop μ-loop
 unfolding inputLine
 loop-again c =
-    let put = c .before .before .put-line in
+    let put = c .before .before .put-sheet-line in
     let l = c .before .before .before .before .before .before .before .loop in
     let a = c .before .before .before .before .before .before .before .before .before .before .args in
     let words = c .before .before .before .before in

@@ -13,7 +13,7 @@ use Rattle.sheets.proofs.lines.put_record.Statement.{statement}
 use Rattle.sheets.proofs.lines.put_record.Tie as tie
 
 same-length : tie.Need-same-length
-same-length c = c .before .before .put-inputs .kept .1 .1 .1 .0 ∙ c .before .before .before .before .before .before .put-line .kept .0
+same-length c = c .before .before .put-inputs .kept .1 .1 .1 .0 ∙ c .before .before .before .before .before .before .put-sheet-line .kept .0
 
 returns : tie.Need-returns
 unfolding recordLines
@@ -23,7 +23,7 @@ returns c =
     let s = output (now (a .out)) (a .at) in
     let bytes = recordAt (a .inputs) (now (a .report)) (a .k) in
     then s (pathLine bytes) (inputLines (a .inputs) bytes)
-    (path-written s bytes (words .before .before .record-word .ensures) (words .before .record-word2 .ensures) (words .record-word3 .ensures) (c .before .before .before .before .before .before .put-line .ensures))
+    (path-written s bytes (words .before .before .record-word .ensures) (words .before .record-word2 .ensures) (words .record-word3 .ensures) (c .before .before .before .before .before .before .put-sheet-line .ensures))
     (c .before .before .put-inputs .ensures)
 
 pub put-record-spec : {M : Type 1} → statement M
