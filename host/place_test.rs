@@ -124,35 +124,28 @@ impl Test for Tally {
         let values = inputs.clamp(1, MOST_INPUTS as u64) as usize;
         let rows = rows_at(report, values);
         let call = Call { inputs, ..call(values, report, &rows) };
-        let (number, _) = run.compare(case, &call);
-        if let Some(readable) = readable {
-            run.require(case, &call, number, if readable { 0 } else { BAD_RECORDS });
-        }
-        number == 0
+        let known = readable.map(|readable| if readable { 0 } else { BAD_RECORDS });
+        let (number, _) = run.compare(case, &call, known);
+        number != BAD_RECORDS
     }
 }
 
 impl Run {
     /// The number and the answers on which the library and the oracle must agree.
-    fn compare(&mut self, case: &str, call: &Call) -> (u64, Vec<u64>) {
+    fn compare(&mut self, case: &str, call: &Call, known: Option<u64>) -> (u64, Vec<u64>) {
         let (number, answers) = call.expected();
         if let Some(text) = call.difference(number, &answers) {
             self.fault(case, call, &text);
         }
         self.count_call(number);
+        self.require(case, call, number, known);
         (number, answers[MARGIN..][..call.answer_words].to_vec())
-    }
-
-    /// The number is known without the oracle.
-    fn expect(&mut self, case: &str, call: &Call, number: u64) {
-        let (found, _) = self.compare(case, call);
-        self.require(case, call, found, number);
     }
 
     /// The answers are known without the oracle.
     fn expect_answers(&mut self, case: &str, call: &Call, answers: &[u64]) {
-        let (number, found) = self.compare(case, call);
-        if number != 0 || found != answers {
+        let (_, found) = self.compare(case, call, Some(0));
+        if found != answers {
             let text = format!("the oracle gives {found:?}, expected {answers:?}");
             self.fault(case, call, &text);
         }
@@ -368,11 +361,11 @@ impl Run {
             let whole = rows.len() % inputs == 0 && rows.len() / inputs == answer_words;
             let number = if whole && answer_words <= MOST_ROWS { 0 } else { BAD_ROWS };
             let good = call(inputs, &report, rows);
-            self.expect("a length", &Call { answer_words, ..good }, number);
+            self.compare("a length", &Call { answer_words, ..good }, Some(number));
             self.tally.lengths[0] += 1;
             for bad in [&damaged, &report[1..], &report[..report.len() - BLOCK_BYTES]] {
                 let call = Call { answer_words, ..call(inputs, bad, rows) };
-                self.expect("a length with a bad report", &call, BAD_RECORDS);
+                self.compare("a length with a bad report", &call, Some(BAD_RECORDS));
                 self.tally.lengths[1] += 1;
             }
         }
@@ -383,7 +376,7 @@ impl Run {
 // Long reports.
 
 impl Run {
-    /// One record more than a byte or two of them count; path 3k is the box k..k.
+    /// One record more than one byte, or two bytes, can count; path 3k is the box k..k.
     fn long_reports(&mut self) {
         for count in [(1 << 8) + 1, (1 << 16) + 1] {
             let path = |place| record(&mut self.random, 1, 3 * place, &[(place, place)]);
@@ -394,7 +387,7 @@ impl Run {
             self.tally.long[0] += 1;
             let last_bit = 8 * report.len() - 1;
             flip(&mut report, last_bit);
-            self.expect("a long report's last check", &call(1, &report, &rows), BAD_RECORDS);
+            self.compare("a long report's last check", &call(1, &report, &rows), Some(BAD_RECORDS));
             self.tally.long[1] += 1;
         }
     }

@@ -118,37 +118,24 @@ static void first_listed_wins(void)
     places(&call, wide_first, "the first listed path does not win over a higher number");
 }
 
-static void every_flipped_bit(void)
+/* Beside Job A's report there are two rows, and an answer for each. */
+static void refuses_report(uint64_t inputs, size_t report_bytes, const char *what)
 {
     static const uint64_t rows[2] = {3, 20};
-    explore(JOB_A_BOX, JOB_A_INPUTS, JOB_A_LIMIT, 0, 2);
     struct call call = call_of(1, 2, rows, 2);
-    for (size_t bit = 0; bit < 8 * 2 * PATH_BYTES; bit++) {
-        lent.report[MARGIN + bit / 8] ^= (uint8_t)(1u << bit % 8);
-        refuses(&call, MIROKEFA_REFUSED_RECORDS, "a flipped bit is not refused with 12");
-        lent.report[MARGIN + bit / 8] ^= (uint8_t)(1u << bit % 8);
-    }
+    call.inputs = inputs, call.report_bytes = report_bytes;
+    refuses(&call, MIROKEFA_REFUSED_RECORDS, what);
 }
 
-/* The noes of a call of two inputs on two paths; those of the report come first. */
-enum { COUNT, LENGTH, OTHER_COUNT, FIRST_CHECK, LAST_CHECK, PART_OF_ROW, MANY_ROWS, ANSWERS, NOES, FIRST_ON_ROWS = PART_OF_ROW };
+/* The noes of two rows come behind those of the report. */
+enum { PART_OF_ROW = REPORT_NOES, MANY_ROWS, ANSWERS, NOES };
 
 static struct call call_with(unsigned noes)
 {
     static const uint64_t rows[4] = {3, 5, 20, 5};
     explore(TWO_INPUTS, 2, JOB_A_LIMIT, 0, 2);
-    /* the last path gets another count, and its right check */
-    if (noes >> OTHER_COUNT & 1)
-        explore(JOB_A_BOX, JOB_A_INPUTS, 5, 1, 1);
-    if (noes >> FIRST_CHECK & 1)
-        lent.report[MARGIN + BLOCK_BYTES - 1] ^= 1;
-    if (noes >> LAST_CHECK & 1)
-        lent.report[MARGIN + 2 * PATH_BYTES - 1] ^= 1;
     struct call call = call_of(2, 2, rows, 2);
-    if (noes >> COUNT & 1)
-        call.inputs = MIROKEFA_MOST_INPUTS + 1;
-    if (noes >> LENGTH & 1)
-        call.report_bytes--;
+    spoil_report(noes, lent.report + MARGIN, &call.inputs, &call.report_bytes);
     if (noes >> MANY_ROWS & 1)
         call.answer_words = MOST_ROWS + 1, call.row_words = 2 * (MOST_ROWS + 1);
     if (noes >> PART_OF_ROW & 1)
@@ -162,37 +149,15 @@ static void every_set_of_noes(void)
 {
     for (unsigned noes = 1; noes < 1u << NOES; noes++) {
         struct call call = call_with(noes);
-        bool report_is_right = noes % (1u << FIRST_ON_ROWS) == 0;
-        refuses(&call, report_is_right ? MIROKEFA_REFUSED_ROWS : MIROKEFA_REFUSED_RECORDS, "the first no does not decide");
+        refuses(&call, number_of(noes, MIROKEFA_REFUSED_ROWS), "the first no does not decide");
     }
 }
 
-static void refuse_counts(void)
-{
-    static const uint64_t counts[6] = {0, MIROKEFA_MOST_INPUTS + 1, (UINT64_C(1) << 32) + 1, UINT64_C(1) << 63, UINT64_MAX, 2};
-    static const uint64_t rows[2] = {3, 20};
-    explore(JOB_A_BOX, JOB_A_INPUTS, JOB_A_LIMIT, 0, 2);
-    struct call call = call_of(1, 2, rows, 2);
-    for (size_t k = 0; k < 6; k++) {
-        call.inputs = counts[k];
-        refuses(&call, MIROKEFA_REFUSED_RECORDS, "a wrong input count is not refused with 12");
-    }
-    call.report_bytes = 0, call.inputs = 0;
-    refuses(&call, MIROKEFA_REFUSED_RECORDS, "no inputs are not refused with 12 where no path is lent");
-}
-
-/* Every length of the report, and rows and answers of other lengths. */
-static void refuse_lengths(void)
+static void refuse_answers(void)
 {
     static const uint64_t rows[2] = {3, 20};
     explore(JOB_A_BOX, JOB_A_INPUTS, JOB_A_LIMIT, 0, 2);
     struct call call = call_of(1, 2, rows, 2);
-    for (size_t length = 0; length < 2 * PATH_BYTES; length++) {
-        call.report_bytes = length;
-        if (length % PATH_BYTES != 0)
-            refuses(&call, MIROKEFA_REFUSED_RECORDS, "a part of a path is not refused with 12");
-    }
-    call = call_of(1, 2, rows, 2);
     for (size_t words = 0; words < 6; words++) {
         call.answer_words = words;
         if (words != 2)
@@ -244,10 +209,9 @@ int main(void)
     rows_of_job_a();
     rows_of_two_inputs();
     first_listed_wins();
-    every_flipped_bit();
+    refuse_reports(lent.report + MARGIN);
     every_set_of_noes();
-    refuse_counts();
-    refuse_lengths();
+    refuse_answers();
     bounds_are_accepted();
     nothing_lent();
     return 0;

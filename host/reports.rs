@@ -44,7 +44,7 @@ pub trait Test: Default {
     fn seen(&self) -> Vec<Seen<'_>>;
 
     /// Lends a report to the call; `readable` is the answer to question 12 where it is known without
-    /// the oracle. Says what the oracle answers.
+    /// the oracle. Says whether the oracle finds the report readable.
     fn lend(
         run: &mut Run<Self>,
         case: &str,
@@ -93,9 +93,9 @@ impl<T: Test> Run<T> {
         }
     }
 
-    /// The oracle's number is known without it.
-    pub fn require(&mut self, case: &str, call: &dyn Display, found: u64, number: u64) {
-        if found != number {
+    /// The number that the oracle found must be the one `known` without it, where one is.
+    pub fn require(&mut self, case: &str, call: &dyn Display, found: u64, known: Option<u64>) {
+        if let Some(number) = known.filter(|&number| number != found) {
             self.fault(case, call, &format!("the oracle gives {found}, expected {number}"));
         }
     }
@@ -223,7 +223,7 @@ impl Damage {
     fn seen(&self) -> [Seen<'_>; 4] {
         [
             ("flipped bits, last checks, lengths cut to, noise", &self.bytes),
-            ("two flipped bits refused and accepted", &self.two_bits),
+            ("reports with two flipped bits, unreadable and readable", &self.two_bits),
             ("changed and with a right check: word 4, any other", &self.repaired),
             ("input counts with no record, their own, another's", &self.counts),
         ]

@@ -1,6 +1,6 @@
 //! Reports printed through the library's border, compared with the oracle: reports of random
-//! programs, foreign and damaged reports, with wrong input counts and on sheets of every kind of
-//! length. `sheet_test [SEED]`: another seed brings other reports and sheets.
+//! programs, foreign and damaged reports, with wrong input counts and on sheets that are too short,
+//! exact and too long. `sheet_test [SEED]`: another seed brings other reports and sheets.
 
 #[allow(dead_code)] // rows are placed by place_test
 #[path = "../tool/library.rs"]
@@ -26,7 +26,7 @@ const OWN_REPORTS: usize = 40;
 const FOREIGN_REPORTS: usize = 60;
 /// Lengths asked for with arguments of any size.
 const LENGTHS: usize = 20_000;
-/// Bytes that the longest sheets have too many.
+/// The longest sheets have up to so many bytes more than the text.
 const MORE: usize = 10_000;
 /// The digits of MAX.
 const MOST_DIGITS: usize = 20;
@@ -146,18 +146,16 @@ impl Test for Tally {
         let below = exact.saturating_sub(1);
         let sheet_bytes = run.random.pick(&[exact, exact, exact + 1, below, 0]);
         let call = Call { inputs, report, sheet_bytes };
-        let (number, _) = run.compare(case, &call);
-        if let Some(readable) = readable {
-            let fits = if sheet_bytes < exact { SHORT_SHEET } else { 0 };
-            run.require(case, &call, number, if readable { fits } else { BAD_RECORDS });
-        }
+        let fits = if sheet_bytes < exact { SHORT_SHEET } else { 0 };
+        let known = readable.map(|readable| if readable { fits } else { BAD_RECORDS });
+        let (number, _) = run.compare(case, &call, known);
         number != BAD_RECORDS
     }
 }
 
 impl Run {
     /// The number on which the library and the oracle must agree, and the sheet as the call leaves it.
-    fn compare(&mut self, case: &str, call: &Call) -> (u64, Vec<u8>) {
+    fn compare(&mut self, case: &str, call: &Call, known: Option<u64>) -> (u64, Vec<u8>) {
         let came = any_sheet(&mut self.random, call.sheet_bytes);
         let mut expected = came.clone();
         let lent = &mut expected[MARGIN..][..call.sheet_bytes];
@@ -166,19 +164,14 @@ impl Run {
             self.fault(case, call, &text);
         }
         self.count_call(number);
+        self.require(case, call, number, known);
         self.compare_length(call.inputs, call.report.len());
         (number, expected[MARGIN..][..call.sheet_bytes].to_vec())
     }
 
-    /// The number is known without the oracle.
-    fn expect(&mut self, case: &str, call: &Call, number: u64) {
-        let (found, _) = self.compare(case, call);
-        self.require(case, call, found, number);
-    }
-
     /// The lines' numbers are known without the oracle; the sheet has the length of the text.
     fn expect_lines(&mut self, case: &str, call: &Call, lines: &[[u64; 3]]) {
-        let (number, sheet) = self.compare(case, call);
+        let (number, sheet) = self.compare(case, call, Some(0));
         let whole = sheet.len() == lines.len() * LINE_BYTES;
         if number != 0 || !whole || read_back(&sheet) != lines {
             let found = String::from_utf8_lossy(&sheet);
@@ -319,14 +312,14 @@ impl Run {
         let mut damaged = report.to_vec();
         flip(&mut damaged, self.random.below(8 * report.len()));
         let exact = call(inputs, report).sheet_bytes;
-        let (few, many) = (self.random.below(exact), exact + 2 + self.random.below(MORE));
+        let (few, many) = (self.random.below(exact), exact + 2 + self.random.below(MORE - 1));
         let lengths = [0, few, exact - LINE_BYTES, exact - 1, exact, exact + 1, many];
         for (kind, sheet_bytes) in lengths.into_iter().enumerate() {
             let number = if sheet_bytes < exact { SHORT_SHEET } else { 0 };
-            self.expect("a sheet", &Call { sheet_bytes, ..call(inputs, report) }, number);
+            self.compare("a sheet", &Call { sheet_bytes, ..call(inputs, report) }, Some(number));
             self.tally.sheets[0][kind] += 1;
             let bad = Call { sheet_bytes, ..call(inputs, &damaged) };
-            self.expect("a sheet with a bad report", &bad, BAD_RECORDS);
+            self.compare("a sheet with a bad report", &bad, Some(BAD_RECORDS));
             self.tally.sheets[1][kind] += 1;
         }
     }
@@ -335,13 +328,13 @@ impl Run {
         for inputs in 1..=MOST_INPUTS {
             for sheet_bytes in [0, 1, LINE_BYTES - 1, LINE_BYTES, 2 * LINE_BYTES, 1000] {
                 let call = Call { inputs: inputs as u64, report: &[], sheet_bytes };
-                self.expect("no record", &call, 0);
+                self.compare("no record", &call, Some(0));
                 self.tally.empty[(sheet_bytes > 0) as usize] += 1;
             }
         }
     }
 
-    /// One record more than a byte or two of them count.
+    /// One record more than one byte, or two bytes, can count.
     fn long_reports(&mut self) {
         for count in [(1 << 8) + 1, (1 << 16) + 1] {
             let path = |_| foreign(&mut self.random, 1);
@@ -353,11 +346,11 @@ impl Run {
             self.tally.long[0] += 1;
             let whole = call(1, &report);
             let short = Call { sheet_bytes: whole.sheet_bytes - 1, ..whole };
-            self.expect("a long report on a short sheet", &short, SHORT_SHEET);
+            self.compare("a long report on a short sheet", &short, Some(SHORT_SHEET));
             self.tally.long[1] += 1;
             let last_bit = 8 * report.len() - 1;
             flip(&mut report, last_bit);
-            self.expect("a long report's last check", &call(1, &report), BAD_RECORDS);
+            self.compare("a long report's last check", &call(1, &report), Some(BAD_RECORDS));
             self.tally.long[2] += 1;
         }
     }

@@ -126,33 +126,20 @@ static void every_sheet_length(void)
     }
 }
 
-static void every_flipped_bit(void)
+/* Beside Job A's report there is a sheet of its length. */
+static void refuses_report(uint64_t inputs, size_t report_bytes, const char *what)
 {
-    struct call call = job_a();
-    for (size_t bit = 0; bit < 8 * 2 * PATH_BYTES; bit++) {
-        lent.report[MARGIN + bit / 8] ^= (uint8_t)(1u << bit % 8);
-        refuses(&call, MIROKEFA_REFUSED_RECORDS, "a flipped bit is not refused with 12");
-        lent.report[MARGIN + bit / 8] ^= (uint8_t)(1u << bit % 8);
-    }
+    struct call call = {inputs, lent.report + MARGIN, report_bytes, lent.sheet + MARGIN, 4 * LINE_BYTES};
+    refuses(&call, MIROKEFA_REFUSED_RECORDS, what);
 }
 
-/* The noes of a call of two inputs on two paths; those of the report come first. */
-enum { COUNT, LENGTH, OTHER_COUNT, FIRST_CHECK, LAST_CHECK, SHORT, NOES };
+/* The no of a sheet comes behind those of the report. */
+enum { SHORT = REPORT_NOES, NOES };
 
 static struct call call_with(unsigned noes)
 {
     struct call call = call_of(JOB_A, TWO_INPUTS, 2, 2, 6 * LINE_BYTES);
-    /* the last path gets another count, and its right check */
-    if (noes >> OTHER_COUNT & 1)
-        explore_code(ADDED, JOB_A_BOX, JOB_A_INPUTS, JOB_A_LIMIT, lent.report + MARGIN + PATH_BYTES, 1);
-    if (noes >> FIRST_CHECK & 1)
-        lent.report[MARGIN + BLOCK_BYTES - 1] ^= 1;
-    if (noes >> LAST_CHECK & 1)
-        lent.report[MARGIN + 2 * PATH_BYTES - 1] ^= 1;
-    if (noes >> COUNT & 1)
-        call.inputs = MIROKEFA_MOST_INPUTS + 1;
-    if (noes >> LENGTH & 1)
-        call.report_bytes--;
+    spoil_report(noes, lent.report + MARGIN, &call.inputs, &call.report_bytes);
     if (noes >> SHORT & 1)
         call.sheet_bytes--;
     return call;
@@ -162,33 +149,7 @@ static void every_set_of_noes(void)
 {
     for (unsigned noes = 1; noes < 1u << NOES; noes++) {
         struct call call = call_with(noes);
-        bool report_is_right = noes == 1u << SHORT;
-        refuses(&call, report_is_right ? MIROKEFA_REFUSED_SHEET : MIROKEFA_REFUSED_RECORDS, "the first no does not decide");
-    }
-}
-
-static void refuse_counts(void)
-{
-    static const uint64_t counts[5] = {0, MIROKEFA_MOST_INPUTS + 1, (UINT64_C(1) << 32) + 1, UINT64_C(1) << 63, UINT64_MAX};
-    struct call call = job_a();
-    call.inputs = 2;
-    refuses(&call, MIROKEFA_REFUSED_RECORDS, "another input count is not refused with 12");
-    for (size_t k = 0; k < 5; k++) {
-        call = job_a();
-        call.inputs = counts[k];
-        refuses(&call, MIROKEFA_REFUSED_RECORDS, "a wrong input count is not refused with 12");
-        call.report_bytes = 0;
-        refuses(&call, MIROKEFA_REFUSED_RECORDS, "a wrong input count is not refused with 12 where no path is lent");
-    }
-}
-
-static void refuse_report_lengths(void)
-{
-    struct call call = job_a();
-    for (size_t length = 0; length < 2 * PATH_BYTES; length++) {
-        call.report_bytes = length;
-        if (length % PATH_BYTES != 0)
-            refuses(&call, MIROKEFA_REFUSED_RECORDS, "a part of a path is not refused with 12");
+        refuses(&call, number_of(noes, MIROKEFA_REFUSED_SHEET), "the first no does not decide");
     }
 }
 
@@ -227,10 +188,8 @@ int main(void)
     memset(&lent, FILL, sizeof lent);
     sheets_of_reports();
     every_sheet_length();
-    every_flipped_bit();
+    refuse_reports(lent.report + MARGIN);
     every_set_of_noes();
-    refuse_counts();
-    refuse_report_lengths();
     nothing_lent();
     lengths();
     return 0;

@@ -177,9 +177,9 @@ size_t mirokefa_sheet_bytes(uint64_t inputs, size_t report_bytes);
  * sheet      room for the text, mirokefa_sheet_bytes(inputs, report_bytes) or more; bytes behind the text stay as lent. It
  *            overlaps nothing else lent.
  *
- * Each path is a line with its number, kind and reason (0 unless the kind is 8), and then for each input, numbered from 0, a line
- * with this number, low and high. Each number is right-aligned in 20 columns, from columns 1, 24 and 48 on, counted from 1; the
- * rest are spaces. A line has 72 columns and a line feed. The text does not end with a zero byte. */
+ * Each path is a line with its number, kind and reason (words 0, 1 and 23 of its first block), and then for each input, numbered
+ * from 0, a line with this number, low and high. Each number is right-aligned in 20 columns, from columns 1, 24 and 48 on, counted
+ * from 1; the rest are spaces. A line has 72 columns and a line feed. The text does not end with a zero byte. */
 uint64_t mirokefa_sheet(
     uint64_t inputs,
     const uint8_t *report, size_t report_bytes,

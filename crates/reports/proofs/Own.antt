@@ -1,16 +1,16 @@
 -- The rows of a job in its own complete report: each row of the starting box has the number of the one path that holds it.
 -- Assumes nothing.
-use mathlib.Core.Path.{_≡_, refl, sym, _∙_}
+use mathlib.Core.Path.{_≡_, sym, _∙_}
 use mathlib.Core.Bool.{true, false, and-eq-true-iff}
 use mathlib.Core.Logic.{⊎-elim}
 use mathlib.Core.List.{List, [], _∷_, append-nil, flatMap, List·Memᴰ·not-nil, List·Memᴰ·cases-cons}
-use Prim.Native.Nat.{ℕ, _*_, _%_, _^_, _≤_, _<_}
+use Prim.Native.Nat.{ℕ, _*_, _^_, _≤_, _<_}
 use native.Mathlib.Nat.{zero-add}
 use native.Mathlib.Omega.{arith}
 use lib.ListN.{length, drop, length-take, length-drop}
 use lib.Seq.{length-take-le}
-use borrow.Author.Tests.{leb-true, le-leb, eq-eqb}
-use Rattle.boxes.specs.Boxes.{Choice, every, Inside, keep, _∈_}
+use borrow.Author.Tests.{leb-true, le-leb}
+use Rattle.boxes.specs.Boxes.{Choice, Inside, keep, _∈_}
 use Rattle.boxes.proofs.Choices.{inside-length, inside-at, at-inside}
 use Rattle.boxes.proofs.Lists.{by-test}
 use Rattle.boxes.proofs.Places.{place-mem, place-exists, place-below}
@@ -20,9 +20,8 @@ use Rattle.corners.specs.Good.{Sound}
 use Rattle.blocks.specs.Reading.{Tells}
 use Rattle.blocks.specs.Record.{mostInputs, recordBytes, records}
 use Rattle.blocks.specs.Report.{recordsIn, recordAt}
-use Rattle.blocks.proofs.Checks.{checks-records}
 use Rattle.blocks.proofs.Each.{each-all, each-at}
-use Rattle.blocks.proofs.Reading.{Fits, records-length, records-at, record-tells}
+use Rattle.blocks.proofs.Reading.{records-length}
 use Rattle.blocks.proofs.Records.{part-inside}
 use Rattle.calls.specs.Call.{Call, inputsOf, written, more, jobOf}
 use Rattle.calls.specs.Complete.{IsPath, Complete}
@@ -35,7 +34,7 @@ use Rattle.demands.proofs.Faithful.{listing-faithful}
 use Rattle.demands.proofs.Histories.{Fair}
 use Rattle.demands.proofs.Joined.{same-itself, fair-sound, fair-few, fair-counted, fair-limit, pages-some}
 use Rattle.demands.proofs.Words.{path-fits}
-use Rattle.reports.specs.Readable.{recordsOf, hasCount, readable}
+use Rattle.reports.specs.Readable.{recordsOf, readable}
 use Rattle.reports.specs.Placing.{rowsIn, rowAt, between, holds, noPath, placing, PlaceCall, placeCallOf, placeAsks, placed}
 use Rattle.reports.specs.Placed.{FirstHolds, OwnReport, OnPath, OwnPlaced}
 use Rattle.reports.specs.declared.PlaceRefusal.{PlaceRefusal}

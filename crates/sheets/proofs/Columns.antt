@@ -2,10 +2,10 @@
 -- Assumes nothing.
 use mathlib.Core.Path.{_≡_, refl, sym, ap, _∙_}
 use mathlib.Core.List.{List, [], _∷_, _++_, append-assoc}
-use Prim.Native.Nat.{ℕ, zero, suc, _+_, _-_, _/_, _%_, _^_, _<_, _≤_}
+use Prim.Native.Nat.{ℕ, suc, _+_, _-_, _/_, _%_, _^_, _<_, _≤_}
 use native.Mathlib.Nat.{add-zero}
 use native.Mathlib.Omega.{arith}
-use lib.ListN.{length, getD, set, take, drop, length-append, length-replicate, replicate-append-replicate, length-set}
+use lib.ListN.{length, set, take, drop, length-append, length-replicate, replicate-append-replicate, length-set}
 use lib.Seq.{take-append-seam, take-append-add, drop-append-add, drop-cons, getD-set-same, take-set-le, drop-set-lt}
 use Rattle.riscu.specs.Word.{maxWord}
 use Rattle.blocks.specs.Writing.{put}

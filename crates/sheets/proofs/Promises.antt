@@ -1,8 +1,7 @@
 -- What a call leaves: its refusals, the text and the rest of the sheet.
 -- Assumes nothing.
 use mathlib.Core.Path.{_≡_, refl, sym, ap, _∙_}
-use mathlib.Core.Bool.{true}
-use mathlib.Core.List.{List, _++_, List·Memᴰ·head as here, List·Memᴰ·tail as there}
+use mathlib.Core.List.{_++_, List·Memᴰ·head as here, List·Memᴰ·tail as there}
 use mathlib.Core.Option.{Option, none, some}
 use Prim.Native.Nat.{ℕ, _≤_}
 use native.Mathlib.Omega.{arith}
@@ -20,7 +19,6 @@ use Rattle.sheets.specs.Sheet.{SheetCall, textOf, lengthOf, sheetLeft, s
 use Rattle.sheets.specs.Printed.{PrintsSheet}
 use Rattle.sheets.specs.declared.SheetRefusal.{SheetRefusal}
 use Rattle.sheets.specs.declared.SheetRefusal.the-variants.{Records, Short}
-use Rattle.sheets.specs.declared.SheetAnswer.{SheetAnswer}
 use Rattle.sheets.specs.declared.SheetAnswer.the-variants.{Refused, Printed}
 use Rattle.sheets.proofs.Lengths.{text-length}
 

@@ -1,8 +1,6 @@
 -- `sheets::lines::put_sheet_line` meets its contract: the line is set in an array, and then written.
 -- Assumes nothing.
 use mathlib.Core.Path.{_∙_, ap}
-use mathlib.Core.List.{List}
-use Prim.Native.Nat.{ℕ}
 use borrow.Author.Needs.{needs}
 use denote.Ref.{now}
 use Rattle.printing.specs.Output.{output, write}

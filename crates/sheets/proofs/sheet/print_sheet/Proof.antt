@@ -2,7 +2,7 @@
 -- Assumes nothing.
 use mathlib.Core.Path.{sym, _∙_}
 use borrow.Author.Needs.{needs}
-use Rattle.sheets.proofs.Promises.{refused-by, printed-by, printed-fits, left-refused, left-printed, whole-text}
+use Rattle.sheets.proofs.Promises.{refused-by, printed-fits, left-refused, whole-text}
 use Rattle.sheets.proofs.sheet.print_sheet.Statement.{statement}
 use Rattle.sheets.proofs.sheet.print_sheet.Tie as tie
 
