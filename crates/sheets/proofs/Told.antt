@@ -1,8 +1,8 @@
 -- The sheet of a report that tells some paths is the sheet of these paths.
 -- Assumes nothing.
 use mathlib.Core.Path.{_≡_, refl, _∙_}
-use mathlib.Core.List.{List, [], _∷_, map, flatMap, append-nil}
-use Prim.Native.Nat.{ℕ, _+_}
+use mathlib.Core.List.{List, [], _∷_, _++_, map, flatMap, append-nil, append-assoc}
+use Prim.Native.Nat.{ℕ, suc, _+_}
 use native.Mathlib.Omega.{arith}
 use lib.ListN.{length}
 use Rattle.boxes.specs.Boxes.{from}
@@ -14,6 +14,7 @@ use Rattle.blocks.specs.Reading.{Tells}
 use Rattle.blocks.specs.Report.{recordsIn, recordAt}
 use Rattle.blocks.proofs.Reading.{Fits}
 use Rattle.printing.specs.Output.{Output, write}
+use Rattle.printing.specs.Shown.{numbered}
 use Rattle.printing.proofs.Told.{box-told, records-told}
 use Rattle.reports.proofs.Written.{Writable, report-records}
 use Rattle.sheets.specs.Line.{sheetLine}
@@ -51,3 +52,11 @@ sheet-told {n} {first} {ps} w =
     let told = records-told (recordLines n) pathLinesOf n (first + length ps) [] first ps (omega arith) (w .words)
     (λ p i bytes k f t. record-told n bytes k p f t (w .inputs p i)) in
     text-is n report ∙ rw (report-records w) (rw (append-nil report) at told)
+
+-- the sheets of pages that follow each other, joined, are the sheet of all their paths
+pub sheet-joined : (n : ℕ) (ps qs : List Path) → sheetOf n (ps ++ qs) ≡ sheetOf n ps ++ sheetOf (n + length ps) qs
+unfolding numbered
+sheet-joined n [] qs = let e : n + 0 ≡ n = omega arith in rw e
+sheet-joined n (p ∷ ps) qs =
+    let e : n + 1 + length ps ≡ n + suc (length ps) = omega arith in
+    rw (sheet-joined (n + 1) ps qs, e, append-assoc)
