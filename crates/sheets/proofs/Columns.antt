@@ -93,8 +93,8 @@ module _ (a b c : ℕ) where
       )
       (simp append-assoc)
 
-  -- as the code writes it
-  pub line-is : sheetLine a b c ≡ sheetField a ++ (ascii "   " ++ (sheetField b ++ (ascii "    " ++ (sheetField c ++ ascii "     \n"))))
+  -- with the spaces written out
+  line-is : sheetLine a b c ≡ sheetField a ++ (ascii "   " ++ (sheetField b ++ (ascii "    " ++ (sheetField c ++ ascii "     \n"))))
   unfolding sheetLine
   line-is = rw columns-are (simp append-assoc)
 

@@ -19,6 +19,7 @@ ghost use Rattle.printing.specs.Printed.{digits};
 ghost use Rattle.sheets.specs.Line.{fieldColumns, sheetLine};
 ghost use Rattle.sheets.specs.Sheet.{inputLines, recordLines, sheetText};
 
+// Columns of a field: MAX has as many digits.
 const FIELD_COLUMNS: usize = 20;
 
 // Where the fields begin, counted from 1.
