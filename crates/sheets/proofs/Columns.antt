@@ -3,10 +3,9 @@
 use mathlib.Core.Path.{_≡_, refl, sym, ap, _∙_}
 use mathlib.Core.List.{List, [], _∷_, _++_, append-assoc}
 use Prim.Native.Nat.{ℕ, suc, _+_, _-_, _/_, _%_, _^_, _<_, _≤_}
-use native.Mathlib.Nat.{add-zero}
 use native.Mathlib.Omega.{arith}
 use lib.ListN.{length, set, take, drop, length-append, length-replicate, replicate-append-replicate, length-set}
-use lib.Seq.{take-append-seam, take-append-add, drop-append-add, drop-cons, getD-set-same, take-set-le, drop-set-lt}
+use lib.Seq.{take-at, drop-at, take-append-add, drop-append-add, drop-cons, getD-set-same, take-set-le, drop-set-lt}
 use Rattle.riscu.specs.Word.{maxWord}
 use Rattle.blocks.specs.Writing.{put}
 use Rattle.blocks.proofs.Puts.{put-none}
@@ -22,16 +21,12 @@ field-length n = rw (length-append, length-replicate) (omega (arith, digits-leng
 skip : (xs ys : List ℕ) (m n : ℕ) → length xs ≡ m → drop (m + n) (xs ++ ys) ≡ drop n ys
 skip xs ys m n e = rw (← e) (drop-append-add xs ys n)
 
-front-of : (xs ys : List ℕ) (m : ℕ) → length xs ≡ m → take m (xs ++ ys) ≡ xs
-front-of xs ys m e = rw (← e) (take-append-seam xs ys)
-
 -- behind the spaces the number stands whole: no field is cut
 pub field-shows : (n : ℕ) → n < 2 ^ 64 → shown 0 (drop (fieldColumns - length (digits n)) (sheetField n)) ≡ n
 unfolding sheetField
 field-shows n h =
     let k = fieldColumns - length (digits n) in
-    let z : k + 0 ≡ k = omega arith in
-    rw (rw z at (skip (spaces k) (digits n) k 0 (length-replicate k _))) (digits-show n h)
+    rw (drop-at (spaces k) (digits n) k (length-replicate k space)) (digits-show n h)
 
 -- MAX takes all its columns
 pub max-fits : sheetField maxWord ≡ digits maxWord
@@ -122,12 +117,12 @@ module _ (a b c : ℕ) where
   in-columns =
       rw columns-are record {
         size = simp (length-append, field-length) (omega arith);
-        first = front-of (sheetField a) behind-first 20 (field-length a);
+        first = take-at (sheetField a) behind-first 20 (field-length a);
         behind-first = ap (take 3) (to-first 0);
-        second = ap (take 20) (to-second 0) ∙ front-of (sheetField b) behind-second 20 (field-length b);
-        behind-second = ap (take 4) (to-second 20 ∙ skip (sheetField b) behind-second 20 0 (field-length b));
-        third = ap (take 20) (to-third 0) ∙ front-of (sheetField c) (spaces 5) 20 (field-length c);
-        behind-third = ap (take 5) (to-third 20 ∙ skip (sheetField c) (spaces 5) 20 0 (field-length c));
+        second = ap (take 20) (to-second 0) ∙ take-at (sheetField b) behind-second 20 (field-length b);
+        behind-second = ap (take 4) (to-second 20 ∙ drop-at (sheetField b) behind-second 20 (field-length b));
+        third = ap (take 20) (to-third 0) ∙ take-at (sheetField c) (spaces 5) 20 (field-length c);
+        behind-third = ap (take 5) (to-third 20 ∙ drop-at (sheetField c) (spaces 5) 20 (field-length c));
       }
 
 -- The fields set into a line of spaces.
@@ -149,11 +144,10 @@ field-set front tail f m k n e =
     let past : length front + (m + j) + d ≡ length front + (m + fieldColumns) = omega arith in
     let before : take (m + j) (all ++ tail) ≡ spaces m ++ spaces j =
     let z : m + (fieldColumns + k) ≡ m + j + (d + k) = omega arith in
-    rw (z, split (m + j) (d + k), append-assoc) (front-of (spaces (m + j)) (spaces (d + k) ++ tail) (m + j) (length-replicate (m + j) space)) ∙ split m j in
+    rw (z, split (m + j) (d + k), append-assoc) (take-at (spaces (m + j)) (spaces (d + k) ++ tail) (m + j) (length-replicate (m + j) space)) ∙ split m j in
     let behind : drop (m + fieldColumns) (all ++ tail) ≡ spaces k ++ tail =
     let z : m + (fieldColumns + k) ≡ m + fieldColumns + k = omega arith in
-    rw (z, split (m + fieldColumns) k, append-assoc)
-    (rw add-zero at (skip (spaces (m + fieldColumns)) (spaces k ++ tail) (m + fieldColumns) 0 (length-replicate (m + fieldColumns) space))) in
+    rw (z, split (m + fieldColumns) k, append-assoc) (drop-at (spaces (m + fieldColumns)) (spaces k ++ tail) (m + fieldColumns) (length-replicate (m + fieldColumns) space)) in
     rw (place, past, take-append-add front (all ++ tail) (m + j), drop-append-add front (all ++ tail) (m + fieldColumns), before, behind)
     (simp append-assoc)
 
