@@ -8,11 +8,14 @@ use formats::blocks::{flat, Interval, HIGHS, LOWS};
 use formats::instruction::{bits, immediate, Form};
 use formats::job::Job;
 use formats::limits::{
-    path_bytes, BLOCK_BYTES, ENTRY_WORDS, LINE_BYTES, MEMORY_WORDS, MOST_INPUTS, MOST_ROWS,
-    MOST_STEPS, PAYLOAD_WORDS, REGISTERS, USUAL_PAGE_PATHS, USUAL_TABLE_WORDS,
+    path_bytes, BLOCK_BYTES, ENTRY_WORDS, LINE_BYTES, MEMORY_WORDS, MOST_CODE_WORDS,
+    MOST_COUNTED_PATHS, MOST_INPUTS, MOST_ROWS, MOST_STEPS, PAYLOAD_WORDS, REGISTERS,
+    USUAL_PAGE_PATHS, USUAL_TABLE_WORDS,
 };
+use formats::numbers::{EXITED, KIND_PLACES};
 use formats::random::Random;
 use formats::report::read_pages;
+use library::{Counts, Reply};
 use std::fmt::Write;
 use std::hint::black_box;
 use std::time::Instant;
@@ -27,15 +30,19 @@ const RUNS: usize = 15;
 /// The median of the runs' nanoseconds, each run being `repeats` calls.
 fn median_ns(repeats: u32, mut call: impl FnMut()) -> f64 {
     call();
-    let mut times: Vec<f64> = (0..RUNS)
-        .map(|_| {
-            let start = Instant::now();
-            (0..repeats).for_each(|_| call());
-            start.elapsed().as_nanos() as f64 / repeats as f64
-        })
-        .collect();
-    times.sort_by(f64::total_cmp);
-    times[RUNS / 2]
+    median((0..RUNS).map(|_| run_ns(repeats, &mut call)).collect())
+}
+
+/// The nanoseconds of a call in one run.
+fn run_ns(repeats: u32, mut call: impl FnMut()) -> f64 {
+    let start = Instant::now();
+    (0..repeats).for_each(|_| call());
+    start.elapsed().as_nanos() as f64 / repeats as f64
+}
+
+fn median(mut numbers: Vec<f64>) -> f64 {
+    numbers.sort_by(f64::total_cmp);
+    numbers[numbers.len() / 2]
 }
 
 /// What a call lends: a job, and room for so many entries and paths.
@@ -84,7 +91,13 @@ impl Call {
         (vec![0; self.entries * ENTRY_WORDS], vec![0; self.paths * size])
     }
 
-    fn make(&self, table: &mut [u64], report: &mut [u8]) -> library::Reply {
+    /// The job with its memory words, up to the last that is not 0.
+    fn blocks(&self) -> Vec<u8> {
+        let given = self.memory.iter().rposition(|&word| word != 0).map_or(0, |last| last + 1);
+        Job { memory: self.memory[..given].to_vec(), ..self.job.clone() }.to_bytes()
+    }
+
+    fn make(&self, table: &mut [u64], report: &mut [u8]) -> Reply {
         let (memory, intervals) = (&self.memory, &self.intervals);
         library::explore(&self.job.code, memory, intervals, self.job.limit, table, report, 0)
     }
@@ -275,6 +288,30 @@ fn compared_often(forks: u32) -> Call {
     call(reads(&work), 0, MAX, 1)
 }
 
+/// A loop of `turns` turns, then one input against `forks` constants. The paths exit with falling values.
+fn compared_and_exited(turns: u64, forks: u32) -> Call {
+    let turn = [addi(6, 6, -1), beq(6, 0, 8), jal(0, -8)];
+    let mut work = [&[ld(6, 256, 0)], &turn[..], &[addi(10, 0, 0)]].concat();
+    for _ in 0..forks {
+        work.extend([addi(7, 7, 1000), sltu(28, 5, 7), add(10, 10, 28)]);
+    }
+    let mut call = call(reads(&work), 0, MAX - 1, 1);
+    call.memory[32] = turns;
+    call
+}
+
+/// Six inputs of 0..255, each compared once. The exit tells the six answers: a value for each path.
+fn six_compared() -> Call {
+    let mut code = vec![addi(6, 0, 100)];
+    for k in 0..6 {
+        code.extend(read(k, 5));
+        code.extend([add(7, 7, 7), sltu(28, 5, 6), add(7, 7, 28)]);
+    }
+    code.push(addi(10, 7, 0));
+    code.extend(closing());
+    call(code, 0, 255, 6)
+}
+
 // ---------------------------------------------------------------------------------------------
 // Probes. Each runs from the start to the fork: with a long way to it, they are counted by their time.
 
@@ -324,14 +361,11 @@ fn probes(work: &[u32], numbers: [u64; 3], ends: Interval) -> u64 {
         black_box(call.make(&mut table, &mut report));
         start.elapsed().as_nanos() as f64
     };
-    let mut counts: Vec<f64> = (0..ROUNDS)
-        .map(|_| {
-            let [whole, none, one] = calls.each_ref().map(&mut time);
-            (whole - none) / (one - none)
-        })
-        .collect();
-    counts.sort_by(f64::total_cmp);
-    counts[ROUNDS / 2].round() as u64
+    let mut count = || {
+        let [whole, none, one] = calls.each_ref().map(&mut time);
+        (whole - none) / (one - none)
+    };
+    median((0..ROUNDS).map(|_| count()).collect()).round() as u64
 }
 
 /// Boxes of one input: an hour in seconds, without and with its last second; some hours, from any second on; and large ones.
@@ -496,6 +530,75 @@ fn write_digits(field: &mut [u8], number: u64) {
 }
 
 // ---------------------------------------------------------------------------------------------
+// Choices counted by a plain loop over the report of the server's call, with the same questions.
+
+extern "C" {
+    fn mirokefa_serve(
+        job: *const u8,
+        job_bytes: usize,
+        report: *mut u8,
+        report_bytes: usize,
+    ) -> Reply;
+}
+
+fn serve(job: &[u8], report: &mut [u8]) -> Reply {
+    // SAFETY: each pointer comes with the length of its own slice, and they do not overlap
+    unsafe { mirokefa_serve(job.as_ptr(), job.len(), report.as_mut_ptr(), report.len()) }
+}
+
+/// The job names path 0 as its first, and the report has room for as many paths as are counted.
+fn count_plain(job: &[u8], report: &mut [u8]) -> Counts {
+    let reply = serve(job, report);
+    if reply.refused != 0 {
+        return no_counts(reply.refused);
+    }
+    // the place of the input count in a header
+    let inputs = word(job, 2);
+    let Some(total) = choices_in(job, inputs) else { return no_counts(15) };
+    if reply.more != 0 {
+        return no_counts(16);
+    }
+    let mut counts = Counts { total, ..no_counts(0) };
+    for record in records(inputs, report).take(reply.count as usize) {
+        let choices = choices_in(record, inputs).expect("a part of the starting box");
+        // kind, and low and high of the exit value
+        match [1, 21, 22].map(|place| word(record, place)) {
+            [EXITED, low, high] if low == high => add_value(&mut counts, low, choices),
+            [EXITED, ..] => counts.varying += choices,
+            [kind, ..] => counts.kinds[kind as usize] += choices,
+        }
+    }
+    counts
+}
+
+fn no_counts(refused: u64) -> Counts {
+    let values = [0; MOST_COUNTED_PATHS];
+    let kinds = [0; KIND_PLACES];
+    Counts { refused, used: 0, values, choices: values, varying: 0, kinds, total: 0 }
+}
+
+/// By the lows and highs of a job's header or a path's first block; none for 2^64 or more.
+fn choices_in(block: &[u8], inputs: u64) -> Option<u64> {
+    (0..inputs as usize).try_fold(1u64, |choices, input| {
+        let width = (word(block, HIGHS + input) - word(block, LOWS + input)).checked_add(1)?;
+        choices.checked_mul(width)
+    })
+}
+
+fn add_value(counts: &mut Counts, value: u64, choices: u64) {
+    let used = counts.used as usize;
+    match counts.values[..used].binary_search(&value) {
+        Ok(place) => counts.choices[place] += choices,
+        Err(place) => {
+            counts.values.copy_within(place..used, place + 1);
+            counts.choices.copy_within(place..used, place + 1);
+            (counts.values[place], counts.choices[place]) = (value, choices);
+            counts.used += 1;
+        }
+    }
+}
+
+// ---------------------------------------------------------------------------------------------
 // The stack: painted below this frame, and looked at after the call.
 
 const PAINTED: usize = 256 * 1024;
@@ -648,6 +751,13 @@ fn print_growth() {
     }
 }
 
+/// As many blocks as a job has, and not one step.
+fn largest() -> Call {
+    let mut call = call(vec![0; MOST_CODE_WORDS], 0, 0, 0);
+    call.memory.fill(1);
+    call
+}
+
 /// A word of no row: the smallest job that is accepted.
 fn smallest() -> Call {
     let mut call = call(vec![0], 0, 0, 0);
@@ -761,6 +871,51 @@ fn print_sheet(call: &Call, repeats: u32) {
     println!("| {inputs} | {paths} | {lines} | {times} | {to_formatted:.1} | {to_plain:.1} |");
 }
 
+fn print_counting() {
+    let to_the_limit = call(reads(&[jal(0, 0)]), 0, 255, 1);
+    println!("\n## Counting\n");
+    println!("| job | paths | steps of all paths | exit values | exploration, µs | plain count, µs | library, µs | to the exploration | to the plain count |");
+    println!("|---|---|---|---|---|---|---|---|---|");
+    print_counted("smallest", &smallest(), 1_000);
+    print_counted("largest, with no step", &largest(), 500);
+    print_counted("Job A", &job_a(), 500);
+    print_counted("waiting time: two haul times and a queue", &waiting_time(), 100);
+    print_counted("six inputs, a fork each", &six_compared(), 10);
+    print_counted("one input, 63 forks", &compared_and_exited(1, 63), 10);
+    print_counted("one input, 700 turns and 1 fork", &compared_and_exited(700, 1), 10);
+    print_counted("one input, 700 turns and 63 forks", &compared_and_exited(700, 63), 1);
+    print_counted("one path to the step limit", &to_the_limit, 3);
+}
+
+/// The three are timed in turn, so that a change of the machine's speed meets all of them.
+fn print_counted(name: &str, call: &Call, repeats: u32) {
+    let job = call.blocks();
+    let size = path_bytes(call.job.intervals.len());
+    let mut report = vec![0; MOST_COUNTED_PATHS * size];
+    let (counts, plain) = (library::count(&job), count_plain(&job, &mut report));
+    assert!(counts.refused == 0 && counts == plain, "the two give the same counts");
+    let paths = serve(&job, &mut report).count;
+    let page = &report[..paths as usize * size];
+    let records = read_pages(page, call.job.intervals.len()).expect("a page of the library");
+    let steps: u64 = records.iter().map(|record| record.steps).sum();
+    let mut times = [(); 3].map(|()| Vec::new());
+    for _ in 0..RUNS {
+        times[0].push(run_ns(repeats, || {
+            black_box(serve(black_box(&job), &mut report));
+        }));
+        times[1].push(run_ns(repeats, || {
+            black_box(count_plain(black_box(&job), &mut report));
+        }));
+        times[2].push(run_ns(repeats, || {
+            black_box(library::count(black_box(&job)));
+        }));
+    }
+    let [explored, plain, ns] = times.map(median);
+    let times = [explored, plain, ns].map(|ns| format!("{:.1}", ns / 1000.0)).join(" | ");
+    let ratios = [ns / explored, ns / plain].map(|ratio| format!("{ratio:.2}")).join(" | ");
+    println!("| {name} | {paths} | {steps} | {} | {times} | {ratios} |", counts.used);
+}
+
 fn main() {
     print_against_plain();
     print_scaling();
@@ -770,4 +925,5 @@ fn main() {
     print_single_calls();
     print_placing();
     print_sheets();
+    print_counting();
 }

@@ -31,7 +31,7 @@ build_tool() {
     fi
 }
 
-# What ./explore and ./place share; top is the top of the repository, and the caller may stand elsewhere.
+# What ./explore, ./place and ./count share; top is the top of the repository, and the caller may stand elsewhere.
 
 wants_help() { # is one of the words an option for it, or is it the only word?
     local word

@@ -1,6 +1,6 @@
 //! A listing of any box compared with single runs of the plain machine.
 
-use crate::oracle::{end_by_corners, run_plain, trace_plain, write_page};
+use crate::oracle::{end_by_corners, owner, run_plain, trace_plain, write_page};
 use crate::oracle::{Interval, Job, Path, Step, NOT_FOLLOWED, STEP_LIMIT};
 use formats::limits::{path_bytes, REGISTERS};
 use formats::numbers::{kind_occurs, reason_occurs};
@@ -48,7 +48,7 @@ pub fn check_listing(random: &mut Random, job: &Job, paths: &[Path]) -> Result<(
     check_traces(job, paths)?;
     for _ in 0..CHOICES_PER_BOX {
         let inputs = choice(random, &job.intervals);
-        check_choice(job, owner(paths, &inputs)?, &inputs)?;
+        check_choice(job, &paths[owner(paths, &inputs)?], &inputs)?;
     }
     Ok(())
 }
@@ -77,19 +77,6 @@ fn divides_at(whole: &[Interval], boxes: &[&[Interval]], input: usize) -> bool {
     // below(place) < above(place) keeps the cut under the greatest word
     (low_part[input].1, high_part[input].0) = (cut, cut + 1);
     divides(&low_part, &boxes[..place]) && divides(&high_part, &boxes[place..])
-}
-
-/// The one path in whose box the choice lies.
-pub fn owner<'a>(paths: &'a [Path], inputs: &[u64]) -> Result<&'a Path, String> {
-    let owners: Vec<&Path> = paths.iter().filter(|path| has(path, inputs)).collect();
-    match owners[..] {
-        [owner] => Ok(owner),
-        _ => Err(format!("{inputs:?} lies in {} paths", owners.len())),
-    }
-}
-
-fn has(path: &Path, inputs: &[u64]) -> bool {
-    path.boxes.iter().zip(inputs).all(|(ends, value)| (ends.0..=ends.1).contains(value))
 }
 
 fn choice(random: &mut Random, intervals: &[Interval]) -> Vec<u64> {

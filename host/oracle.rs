@@ -1,12 +1,14 @@
-//! A brute-force oracle for the interval path explorer, after document 01 and Nos. 1 to 6 of
+//! A brute-force oracle for the interval path explorer, after document 01 and Nos. 1 to 7 of
 //! document 02.
 //!
 //! A group holds every choice of its box, each with a plain machine of its own; a value is fixed if
 //! all of them give the same, and pieces are made by sorting the choices. Nothing is computed from
-//! the ends of intervals alone, so it is slow and plain: boxes of up to some 100,000 choices.
+//! the ends of intervals alone, so it is slow and plain: boxes of up to some 100,000 choices. Where
+//! choices are counted in larger boxes, a group holds the two at its corners alone.
 //!
 //! It is the other side of every comparison, a reading of the papers by itself: it has a decoder, a
-//! machine, numbers, a writer and a reader of records of its own, and shares none with tool or crates.
+//! machine, numbers, a writer and readers of records and jobs of its own, and shares none with tool
+//! or crates.
 
 #![allow(dead_code)] // a program that includes this module uses a part of it
 
@@ -20,6 +22,7 @@ pub const READ: u64 = 63;
 pub const EXIT: u64 = 93;
 pub const WORDS_PER_ENTRY: usize = 8;
 const BLOCK_WORDS: usize = 64;
+const PAYLOAD_WORDS: usize = BLOCK_WORDS - 1;
 const BLOCK_BYTES: usize = 512;
 
 // Kinds, as document 01 numbers them; since No. 3 of document 02 no path has kind 2.
@@ -479,16 +482,20 @@ fn decide(job: &Job, group: &Group, instruction: Instruction) -> Result<u64, End
     Ok(needed)
 }
 
-/// The end of a group of any size, by the choices at its lows and at its highs alone: where every
-/// value only rises or only falls with one input, these decide.
-pub fn end_by_corners(job: &Job, intervals: &[Interval], steps: u64, used: u64) -> Option<End> {
+/// A group of any size, by the choices at its lows and at its highs alone: where every value only
+/// rises or only falls with one input, these decide.
+fn corners(job: &Job, intervals: &[Interval], steps: u64, used: u64) -> Group {
     let corner = |end: fn(&Interval) -> u64| {
         let inputs: Vec<u64> = intervals.iter().map(end).collect();
         let machine = run_plain(&job.code, &job.memory, &inputs, steps).machine;
         Choice { inputs: Rc::new(inputs), machine }
     };
-    let choices = vec![corner(|ends| ends.0), corner(|ends| ends.1)];
-    let group = Group { choices, steps, used };
+    Group { choices: vec![corner(|ends| ends.0), corner(|ends| ends.1)], steps, used }
+}
+
+/// The end of a group of any size.
+pub fn end_by_corners(job: &Job, intervals: &[Interval], steps: u64, used: u64) -> Option<End> {
+    let group = corners(job, intervals, steps, used);
     next(job, &group).and_then(|instruction| decide(job, &group, instruction)).err()
 }
 
@@ -654,6 +661,52 @@ fn in_rising_order(mut pieces: Vec<Group>) -> Vec<Group> {
     pieces
 }
 
+/// The pieces of a group that has its corners alone, one step later.
+fn split_corners(job: &Job, mut group: Group, instruction: Instruction, needed: u64) -> Vec<Group> {
+    let (steps, used) = (group.steps + 1, group.used + needed);
+    let (low, high) = group.low_high(|choice| class_of(&choice.machine, instruction));
+    if low == high {
+        let step = |choice: &mut Choice| choice.machine.step(instruction, &choice.inputs);
+        group.choices.iter_mut().for_each(step);
+        return vec![Group { steps, used, ..group }];
+    }
+    let class = |inputs: &[u64]| {
+        let machine = run_plain(&job.code, &job.memory, inputs, group.steps).machine;
+        class_of(&machine, instruction)
+    };
+    let pieces = cut(&group.intervals(), &class);
+    pieces.iter().map(|piece| corners(job, piece, steps, used)).collect()
+}
+
+/// The boxes of one class each, in rising order of the input cut: the one along which it changes.
+fn cut(boxed: &[Interval], class: &impl Fn(&[u64]) -> u64) -> Vec<Vec<Interval>> {
+    let along = |input: usize, value: u64| {
+        let mut inputs: Vec<u64> = boxed.iter().map(|ends| ends.0).collect();
+        inputs[input] = value;
+        class(&inputs)
+    };
+    let changes = |&input: &usize| along(input, boxed[input].0) != along(input, boxed[input].1);
+    let Some(input) = (0..boxed.len()).find(changes) else { return vec![boxed.to_vec()] };
+    let last = last_of_first_class(boxed[input], |value| along(input, value));
+    let (mut below, mut above) = (boxed.to_vec(), boxed.to_vec());
+    (below[input].1, above[input].0) = (last, last + 1);
+    [vec![below], cut(&above, class)].concat()
+}
+
+/// By halving; the class at the low does not come back once it has changed.
+fn last_of_first_class((mut low, mut high): Interval, class: impl Fn(u64) -> u64) -> u64 {
+    let first = class(low);
+    while high - low > 1 {
+        let middle = low + (high - low) / 2;
+        if class(middle) == first {
+            low = middle;
+        } else {
+            high = middle;
+        }
+    }
+    low
+}
+
 // ---------------------------------------------------------------------------------------------
 // The plain listing.
 
@@ -680,10 +733,26 @@ pub fn listing(job: &Job) -> Vec<Path> {
 
 /// The listing, and what its groups came to of `TO_MEET`.
 pub fn listing_and_met(job: &Job) -> (Vec<Path>, BTreeSet<Met>) {
+    moves(job, starting_group(job), split, usize::MAX)
+}
+
+/// The first paths of the listing of a box of any size, at most so many.
+pub fn listing_by_corners(job: &Job, most: usize) -> Vec<Path> {
+    let split = |group, instruction, needed| split_corners(job, group, instruction, needed);
+    moves(job, corners(job, &job.intervals, 0, 0), split, most).0
+}
+
+/// The moves from a starting group on, until no group waits or there are the most paths.
+fn moves(
+    job: &Job,
+    start: Group,
+    split: impl Fn(Group, Instruction, u64) -> Vec<Group>,
+    most: usize,
+) -> (Vec<Path>, BTreeSet<Met>) {
     let (mut ended, mut met) = (Vec::new(), BTreeSet::new());
     // the first waiting group is the last of the vector
-    let mut waiting = vec![starting_group(job)];
-    while let Some(group) = waiting.pop() {
+    let mut waiting = vec![start];
+    while let Some(group) = waiting.pop().filter(|_| ended.len() < most) {
         let decided = next(job, &group).and_then(|instruction| {
             met.extend(meets(&group, instruction));
             Ok((instruction, decide(job, &group, instruction)?))
@@ -696,6 +765,19 @@ pub fn listing_and_met(job: &Job) -> (Vec<Path>, BTreeSet<Met>) {
         }
     }
     (ended, met)
+}
+
+/// The number of the one path in whose box a choice lies.
+pub fn owner(paths: &[Path], inputs: &[u64]) -> Result<usize, String> {
+    let owners = (0..paths.len()).filter(|&number| has(&paths[number], inputs));
+    match owners.collect::<Vec<usize>>()[..] {
+        [owner] => Ok(owner),
+        ref owners => Err(format!("{inputs:?} lies in {} paths", owners.len())),
+    }
+}
+
+fn has(path: &Path, inputs: &[u64]) -> bool {
+    path.boxes.iter().zip(inputs).all(|(ends, value)| (ends.0..=ends.1).contains(value))
 }
 
 /// What random jobs must come to; the first are the operations in their order.
@@ -881,7 +963,7 @@ fn second_block(number: u64, path: &Path) -> [u64; BLOCK_WORDS] {
 }
 
 fn with_check(mut block: [u64; BLOCK_WORDS]) -> [u64; BLOCK_WORDS] {
-    block[BLOCK_WORDS - 1] = check(&block[..BLOCK_WORDS - 1]);
+    block[PAYLOAD_WORDS] = check(&block[..PAYLOAD_WORDS]);
     block
 }
 
@@ -932,8 +1014,12 @@ fn records(inputs: u64, report: &[u8]) -> Option<Vec<Vec<u64>>> {
 
 /// The count in word 4, and the checks of both blocks.
 fn is_record(inputs: u64, path: &[u64]) -> bool {
-    let agrees = |block: &[u64]| check(&block[..BLOCK_WORDS - 1]) == block[BLOCK_WORDS - 1];
     path[4] == inputs && path.chunks(BLOCK_WORDS).all(agrees)
+}
+
+/// Is the last word of a block its check?
+fn agrees(block: &[u64]) -> bool {
+    check(&block[..PAYLOAD_WORDS]) == block[PAYLOAD_WORDS]
 }
 
 /// Each value of the row between the low and the high of its input, both ends included.
@@ -993,4 +1079,167 @@ fn line(fields: [u64; 3]) -> String {
     }
     columns.push('\n');
     columns.into_iter().collect()
+}
+
+// ---------------------------------------------------------------------------------------------
+// A job in blocks.
+
+pub const BAD_BLOCKS: u64 = 9;
+pub const BAD_CHECK: u64 = 10;
+pub const BAD_FORM: u64 = 11;
+
+const PROGRAM_TABLE_WORDS: usize = 8192;
+
+/// What the program explores, or the number of the first question that is answered by no.
+pub fn read_job(bytes: &[u8]) -> Result<Job, u64> {
+    let count = bytes.len() / BLOCK_BYTES;
+    if bytes.len() % BLOCK_BYTES != 0 || !(1..=19).contains(&count) {
+        return Err(BAD_BLOCKS);
+    }
+    let blocks: Vec<Vec<u64>> = bytes.chunks(BLOCK_BYTES).map(words).collect();
+    if !blocks.iter().all(|block| agrees(block)) {
+        return Err(BAD_CHECK);
+    }
+    let payloads: Vec<&[u64]> = blocks.iter().map(|block| &block[..PAYLOAD_WORDS]).collect();
+    match header_refusal(payloads[0]) {
+        Some(number) => Err(number),
+        None => job_of(payloads[0], &payloads[1..]).ok_or(BAD_FORM),
+    }
+}
+
+/// The questions at the door that the header answers; table and report are the program's own.
+fn header_refusal(header: &[u64]) -> Option<u64> {
+    let intervals = header_intervals(header);
+    let flat: Vec<u64> = intervals.iter().flat_map(|&(low, high)| [low, high]).collect();
+    // up to 512 words may be given, and the rest are 0
+    let memory_words = MEMORY_WORDS.max(header[21] as usize);
+    let (code_words, report_bytes) = (header[1] as usize, path_bytes(intervals.len()));
+    let (limit, first) = (header[3], header[4]);
+    door(code_words, &flat, limit, PROGRAM_TABLE_WORDS, memory_words, report_bytes, first)
+}
+
+/// Nine for any number above eight: the header has no place for more, and nine are refused.
+fn header_intervals(header: &[u64]) -> Vec<Interval> {
+    let inputs = header[2].min(9) as usize;
+    (0..inputs).map(|input| (header[5 + input], header[13 + input])).collect()
+}
+
+/// What the blocks hold after a header that passed; none if their form is another.
+fn job_of(header: &[u64], rest: &[&[u64]]) -> Option<Job> {
+    let [code_words, inputs, memory_words] = [1, 2, 21].map(|place| header[place] as usize);
+    let code_blocks = code_words.div_ceil(2 * PAYLOAD_WORDS);
+    let memory_blocks = memory_words.div_ceil(PAYLOAD_WORDS);
+    if header[0] != 1 || rest.len() != code_blocks + memory_blocks {
+        return None;
+    }
+    let (code, memory) = (rest[..code_blocks].concat(), rest[code_blocks..].concat());
+    // two words to a payload word, the low half first
+    let halves: Vec<u64> = code.iter().flat_map(|word| [word % (1 << 32), word >> 32]).collect();
+    let in_header = [&header[5 + inputs..13], &header[13 + inputs..21], &header[22..]].concat();
+    let unused = [&in_header[..], &halves[code_words..], &memory[memory_words..]].concat();
+    unused.iter().all(|&word| word == 0).then(|| Job {
+        code: halves[..code_words].iter().map(|&half| half as u32).collect(),
+        memory: memory[..memory_words].to_vec(),
+        limit: header[3],
+        intervals: header_intervals(header),
+        entries: (PROGRAM_TABLE_WORDS / WORDS_PER_ENTRY) as u64,
+    })
+}
+
+// ---------------------------------------------------------------------------------------------
+// Choices counted: No. 7 of document 02.
+
+pub const TOO_MANY_CHOICES: u64 = 15;
+pub const TOO_MANY_PATHS: u64 = 16;
+pub const MOST_COUNTED_PATHS: usize = 64;
+
+/// A box of so many choices is still counted choice by choice.
+pub const MOST_TRIED: u128 = 2000;
+
+/// The choices on paths that exit with each fixed value, on paths whose exit varies, and on paths
+/// of each other kind; the total is worked out from the starting intervals.
+#[derive(Clone, Debug, Default, PartialEq, Eq)]
+pub struct Counts {
+    pub values: BTreeMap<u64, u128>,
+    pub varying: u128,
+    pub kinds: BTreeMap<u64, u128>,
+    pub total: u128,
+}
+
+impl Counts {
+    /// Where the choices of a path are counted; an exit value comes if it is fixed.
+    fn place(&mut self, kind: u64, value: Option<u64>) -> &mut u128 {
+        match (kind, value) {
+            (EXITED, Some(value)) => self.values.entry(value).or_default(),
+            (EXITED, None) => &mut self.varying,
+            _ => self.kinds.entry(kind).or_default(),
+        }
+    }
+
+    fn sum(&self) -> u128 {
+        let counts = self.values.values().chain(self.kinds.values());
+        counts.sum::<u128>() + self.varying
+    }
+}
+
+/// The counts of a job in blocks, or the number of the refusal.
+pub fn count(bytes: &[u8]) -> Result<Counts, u64> {
+    count_and_paths(bytes).map(|(counts, _)| counts)
+}
+
+/// The counts, and the paths that were counted: all, whatever first path the job names.
+pub fn count_and_paths(bytes: &[u8]) -> Result<(Counts, Vec<Path>), u64> {
+    let job = read_job(bytes)?;
+    let total = choices_in(&job.intervals);
+    if total >= 1 << 64 {
+        return Err(TOO_MANY_CHOICES);
+    }
+    let small = total <= MOST_TRIED;
+    let paths = match small {
+        true => listing(&job),
+        false => listing_by_corners(&job, MOST_COUNTED_PATHS + 1),
+    };
+    if paths.len() > MOST_COUNTED_PATHS {
+        return Err(TOO_MANY_PATHS);
+    }
+    let counts = if small { count_choices(&job, &paths) } else { count_boxes(&paths) };
+    assert!(counts.sum() == total, "the counts do not add up to the starting box");
+    Ok((Counts { total, ..counts }, paths))
+}
+
+/// 2^128 - 1 where there are more.
+pub fn choices_in(intervals: &[Interval]) -> u128 {
+    let width = |&(low, high): &Interval| (high - low) as u128 + 1;
+    intervals.iter().map(width).fold(1, u128::saturating_mul)
+}
+
+/// Choice by choice: on which path each lies, and with what its own run exits.
+pub fn count_choices(job: &Job, paths: &[Path]) -> Counts {
+    let mut counts = Counts::default();
+    for (path, values) in paths.iter().zip(exit_values(job, paths)) {
+        let fixed = values.iter().all(|&value| value == values[0]);
+        *counts.place(path.kind, fixed.then_some(values[0])) += values.len() as u128;
+    }
+    counts
+}
+
+/// For each path, register 10 of each choice on it where the path ends.
+fn exit_values(job: &Job, paths: &[Path]) -> Vec<Vec<u64>> {
+    let mut values = vec![Vec::new(); paths.len()];
+    for inputs in all_inputs(&job.intervals) {
+        let number = owner(paths, &inputs).expect("a choice has one path");
+        let run = run_plain(&job.code, &job.memory, &inputs, paths[number].steps);
+        values[number].push(run.machine.registers[10]);
+    }
+    values
+}
+
+/// By the sizes of the paths' boxes.
+pub fn count_boxes(paths: &[Path]) -> Counts {
+    let mut counts = Counts::default();
+    for path in paths {
+        let (low, high) = path.registers[10];
+        *counts.place(path.kind, (low == high).then_some(low)) += choices_in(&path.boxes);
+    }
+    counts
 }

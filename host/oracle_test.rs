@@ -1,5 +1,5 @@
-//! Tests of the oracle itself: document 01's rules on trial, Nos. 1, 2, 3, 5 and 6 of document 02,
-//! and random jobs against runs of its plain machine.
+//! Tests of the oracle itself: document 01's rules on trial, Nos. 1, 2, 3, 5, 6 and 7 of document
+//! 02, and random jobs against runs of its plain machine.
 
 mod listing_check;
 mod oracle;
@@ -705,8 +705,8 @@ fn plain_runs_agree_with_their_paths() {
         ends.extend(paths.iter().map(|path| (path.kind, path.reason)));
         listing_check::check_listing(&mut random, &job, &paths).unwrap();
         for inputs in all_inputs(&job.intervals) {
-            let owner = listing_check::owner(&paths, &inputs).unwrap();
-            listing_check::check_choice(&job, owner, &inputs).unwrap();
+            let number = owner(&paths, &inputs).unwrap();
+            listing_check::check_choice(&job, &paths[number], &inputs).unwrap();
         }
     }
     let kinds = (1..=KINDS).filter(|&kind| kind_occurs(kind)).count();
@@ -1034,4 +1034,274 @@ fn lengths_of_sheets() {
     for (inputs, report_bytes, length) in lengths {
         assert_eq!(sheet_bytes(inputs, report_bytes), length, "{inputs} {report_bytes}");
     }
+}
+
+/// A job in blocks, without memory words.
+fn blocks(code: &[u32], intervals: &[Interval], limit: u64, first: u64) -> Vec<u8> {
+    let (code, intervals) = (code.to_vec(), intervals.to_vec());
+    formats::job::Job { code, intervals, limit, first, memory: Vec::new() }.to_bytes()
+}
+
+type Counted = Result<Counts, u64>;
+
+/// The counts of a program that reads an input into register 5, does the work and exits.
+fn counted(work: &[u32], intervals: &[Interval]) -> Counted {
+    count(&blocks(&reads(work), intervals, 3000, 0))
+}
+
+/// What is expected: exit values, exits that vary, other kinds and the total.
+fn counts(values: &[(u64, u128)], varying: u128, kinds: &[(u64, u128)], total: u128) -> Counted {
+    let (values, kinds) = (values.iter().copied().collect(), kinds.iter().copied().collect());
+    Ok(Counts { values, varying, kinds, total })
+}
+
+#[test]
+fn counts_of_job_a() {
+    let count_a =
+        |intervals: &[Interval], limit| count(&blocks(&job_a().code, intervals, limit, 0));
+    assert_eq!(count_a(&[(0, 255)], 100), counts(&[(0, 246), (1, 10)], 0, &[], 256));
+    assert_eq!(count_a(&[(9, 10)], 100), counts(&[(0, 1), (1, 1)], 0, &[], 2));
+    assert_eq!(count_a(&[(10, 10)], 100), counts(&[(0, 1)], 0, &[], 1));
+    // one path, and two paths
+    assert_eq!(count_a(&[(0, 255)], 5), counts(&[], 0, &[(7, 256)], 256));
+    assert_eq!(count_a(&[(0, 255)], 7), counts(&[], 0, &[(7, 256)], 256));
+    // inputs that are not read have their choices too
+    assert_eq!(count_a(&[(0, 255), (5, 7)], 100), counts(&[(0, 738), (1, 30)], 0, &[], 768));
+    let more = [(0, 255), (1, 2), (0, 0), (7, 9)];
+    assert_eq!(count_a(&more, 100), counts(&[(0, 1476), (1, 60)], 0, &[], 1536));
+}
+
+#[test]
+fn a_value_on_paths_far_apart_is_counted_once() {
+    // 10 - v < 1: 0..9, 10..10 and 11..255
+    let work = [addi(6, 0, 10), sub(7, 6, 5), addi(28, 0, 1), sltu(10, 7, 28)];
+    assert_eq!(counted(&work, &[(0, 255)]), counts(&[(0, 255), (1, 1)], 0, &[], 256));
+}
+
+#[test]
+fn exits_that_vary_are_counted_together() {
+    assert_eq!(counted(&[addi(10, 5, 0)], &[(0, 255)]), counts(&[], 256, &[], 256));
+    assert_eq!(counted(&[addi(10, 5, 0)], &[(5, 5)]), counts(&[(5, 1)], 0, &[], 1));
+    // 3..4 and 5..7; 3..4, and 5 alone, which has a fixed remainder
+    let by_5 = [addi(6, 0, 5), remu(10, 5, 6)];
+    assert_eq!(counted(&by_5, &[(3, 7)]), counts(&[], 5, &[], 5));
+    assert_eq!(counted(&by_5, &[(3, 5)]), counts(&[(0, 1)], 2, &[], 3));
+    // v where it is below 10, otherwise 5, which is no choice of the path that varies
+    let work = [addi(6, 0, 10), sltu(7, 5, 6), addi(10, 0, 5), beq(7, 0, 8), addi(10, 5, 0)];
+    assert_eq!(counted(&work, &[(0, 255)]), counts(&[(5, 246)], 10, &[], 256));
+}
+
+#[test]
+fn each_other_kind_is_counted() {
+    let ends: [(u64, &[u32]); 7] = [
+        (BAD_PC, &[jal(0, 6)]),
+        (BAD_WORD, &[0]),
+        (BAD_ADDRESS, &[ld(10, 4, 0)]),
+        (BAD_CALL, &[addi(17, 0, 64), ecall()]),
+        (STEP_LIMIT, &[jal(0, 0)]),
+        (NOT_FOLLOWED, &[add(10, 5, 5)]),
+        (TRACE_FULL, &[addi(8, 8, 1), jal(0, -4)]),
+    ];
+    for (kind, end) in ends {
+        // values below 10 end so, and the others exit with 0
+        let past = 4 * (1 + end.len()) as i64;
+        let work = [&[addi(6, 0, 10), sltu(10, 5, 6), beq(10, 0, past)], end].concat();
+        let expected = counts(&[(0, 246)], 0, &[(kind, 10)], 256);
+        assert_eq!(counted(&work, &[(0, 255)]), expected);
+        let expected = counts(&[(0, 29_990)], 0, &[(kind, 10)], 30_000);
+        assert_eq!(counted(&work, &[(0, 29_999)]), expected);
+    }
+}
+
+#[test]
+fn the_program_has_1024_entries() {
+    // 255 turns of four entries, one for their number, and the others for the exit
+    let turn = [addi(8, 8, 1), addi(9, 0, 0), addi(9, 0, 0), addi(9, 0, 0)];
+    let turns = [&[addi(7, 0, 255)], &turn[..], &[beq(8, 7, 8), jal(0, -20)]].concat();
+    let count_of = |rest: &[u32]| count(&blocks(&[&turns, rest].concat(), &[(0, 9)], 2000, 0));
+    let few = [&[addi(10, 0, 5), addi(9, 0, 0)], &closing()[..]].concat();
+    assert_eq!(count_of(&few), counts(&[(5, 10)], 0, &[], 10));
+    let one_more = [&[addi(10, 0, 5), addi(9, 0, 0), addi(9, 0, 0)], &closing()[..]].concat();
+    assert_eq!(count_of(&one_more), counts(&[], 0, &[(9, 10)], 10));
+}
+
+#[test]
+fn a_job_without_inputs_has_one_choice() {
+    let count_of = |code: &[u32]| count(&blocks(code, &[], 100, 0));
+    assert_eq!(count_of(&closing()), counts(&[(0, 1)], 0, &[], 1));
+    assert_eq!(count_of(&[0]), counts(&[], 0, &[(4, 1)], 1));
+    // without an input left the read gives 0
+    assert_eq!(count_of(&reads(&[])), counts(&[(0, 1)], 0, &[], 1));
+}
+
+#[test]
+fn two_inputs() {
+    // the second input goes to address 8 and to register 7
+    let second = [addi(10, 0, 0), addi(11, 0, 8), ecall(), ld(7, 8, 0)];
+    // a < 2 exits with b, otherwise with 7
+    let work = [addi(6, 0, 2), sltu(28, 5, 6), addi(10, 0, 7), beq(28, 0, 8), addi(10, 7, 0)];
+    let work = [&second[..], &work].concat();
+    assert_eq!(counted(&work, &[(0, 3), (0, 4)]), counts(&[(7, 10)], 10, &[], 20));
+    // where b has one value it is fixed
+    assert_eq!(counted(&work, &[(0, 3), (7, 7)]), counts(&[(7, 4)], 0, &[], 4));
+    // a < 3 and then b < 2 exit with 1, otherwise with 0
+    let both = [addi(6, 0, 3), sltu(28, 5, 6), addi(6, 0, 2), sltu(29, 7, 6), mul(10, 28, 29)];
+    let both = [&second[..], &both].concat();
+    assert_eq!(counted(&both, &[(0, 9), (0, 9)]), counts(&[(0, 94), (1, 6)], 0, &[], 100));
+}
+
+#[test]
+fn boxes_of_2_to_the_64_choices_are_refused() {
+    let less = |intervals: &[Interval]| counted(&[addi(6, 0, 10), sltu(10, 5, 6)], intervals);
+    let (max, half) = (MAX as u128, 1 << 32);
+    assert_eq!(less(&[(0, MAX)]), Err(TOO_MANY_CHOICES));
+    assert_eq!(less(&[(0, MAX - 1)]), counts(&[(0, max - 10), (1, 10)], 0, &[], max));
+    assert_eq!(less(&[(1, MAX)]), counts(&[(0, max - 9), (1, 9)], 0, &[], max));
+    assert_eq!(less(&[(0, 0), (0, MAX)]), Err(TOO_MANY_CHOICES));
+    assert_eq!(less(&[(0, 0), (1, MAX)]), counts(&[(1, max)], 0, &[], max));
+    // 2^32 by 2^32, by one less, and one more by one less
+    assert_eq!(less(&[(0, half - 1), (0, half - 1)]), Err(TOO_MANY_CHOICES));
+    let total = (1_u128 << 64) - (1 << 32);
+    let ten = 10 * ((1 << 32) - 1);
+    let expected = counts(&[(0, total - ten), (1, ten)], 0, &[], total);
+    assert_eq!(less(&[(0, half - 1), (0, half - 2)]), expected);
+    let expected = counts(&[(0, max - ten), (1, ten)], 0, &[], max);
+    assert_eq!(less(&[(0, half), (0, half - 2)]), expected);
+    // a third of 2^64 - 1 three times, and one value more: 2^64 + 2 choices
+    let third = MAX / 3;
+    let expected = counts(&[(0, max - 30), (1, 30)], 0, &[], max);
+    assert_eq!(less(&[(0, third - 1), (5, 7)]), expected);
+    assert_eq!(less(&[(0, third), (5, 7)]), Err(TOO_MANY_CHOICES));
+    // eight inputs: 2^64, then 255 * 2^56, and 2^512
+    let mut eight = [(0, 255); 8];
+    assert_eq!(less(&eight), Err(TOO_MANY_CHOICES));
+    eight[7].1 = 254;
+    let (total, ten) = (255 << 56, 2550 << 48);
+    assert_eq!(less(&eight), counts(&[(0, total - ten), (1, ten)], 0, &[], total));
+    assert_eq!(less(&[(0, MAX); 8]), Err(TOO_MANY_CHOICES));
+}
+
+/// Counts from 0 up to the input, and exits with a word's result on it in register 6: a path each.
+fn stepped(word: u32) -> Vec<u32> {
+    vec![addi(7, 0, 2), beq(5, 6, 12), addi(6, 6, 1), jal(0, -8), word]
+}
+
+#[test]
+fn more_than_64_paths_are_refused() {
+    let each: Vec<(u64, u128)> = (0..64).map(|value| (value, 1)).collect();
+    assert_eq!(counted(&stepped(addi(10, 6, 0)), &[(0, 63)]), counts(&each, 0, &[], 64));
+    assert_eq!(counted(&stepped(addi(10, 6, 0)), &[(0, 64)]), Err(TOO_MANY_PATHS));
+    // even and odd numbers, 2 minus a number, and a hundred choices on each path
+    let remainders = counts(&[(0, 32), (1, 32)], 0, &[], 64);
+    assert_eq!(counted(&stepped(remu(10, 6, 7)), &[(0, 63)]), remainders);
+    let falling: Vec<(u64, u128)> = (0..=2).chain(MAX - 60..=MAX).map(|value| (value, 1)).collect();
+    assert_eq!(counted(&stepped(sub(10, 7, 6)), &[(0, 63)]), counts(&falling, 0, &[], 64));
+    let each: Vec<(u64, u128)> = (0..63).map(|value| (value, 100)).collect();
+    let two = [(0, 62), (1, 100)];
+    assert_eq!(counted(&stepped(addi(10, 6, 0)), &two), counts(&each, 0, &[], 6300));
+    assert_eq!(counted(&stepped(addi(10, 6, 0)), &[(0, 64), (1, 100)]), Err(TOO_MANY_PATHS));
+}
+
+#[test]
+fn the_size_is_asked_before_the_paths() {
+    assert_eq!(counted(&stepped(addi(10, 6, 0)), &[(0, 64), (0, MAX)]), Err(TOO_MANY_CHOICES));
+    assert_eq!(counted(&stepped(addi(10, 6, 0)), &[(0, MAX)]), Err(TOO_MANY_CHOICES));
+    assert_eq!(counted(&stepped(addi(10, 6, 0)), &[(1, MAX)]), Err(TOO_MANY_PATHS));
+}
+
+#[test]
+fn the_first_path_named_changes_no_count() {
+    let from = |first| count(&blocks(&job_a().code, &[(0, 255)], 100, first));
+    for first in [0, 1, 2, 64, (1 << 32) - 1] {
+        assert_eq!(from(first), counts(&[(0, 246), (1, 10)], 0, &[], 256));
+    }
+    assert_eq!(from(1 << 32), Err(8));
+    let large = blocks(&job_a().code, &[(0, MAX)], 100, 1 << 32);
+    assert_eq!(count(&large), Err(8));
+}
+
+/// A job with these words in its header and right checks; otherwise it has the inputs 0..0 and
+/// 0..0, and its code is one word that is no instruction.
+fn header_with(words: &[(usize, u64)]) -> Vec<u8> {
+    let mut header = [0; PAYLOAD_WORDS];
+    header[..4].copy_from_slice(&[1, 1, 2, 100]);
+    words.iter().for_each(|&(place, word)| header[place] = word);
+    [to_bytes(&header), to_bytes(&[0])].concat()
+}
+
+#[test]
+fn the_questions_on_a_job_come_in_order() {
+    assert_eq!(count(&header_with(&[])), counts(&[], 0, &[(4, 1)], 1));
+    // a low of the second input, and a high of the first
+    let words = [(1, 0), (2, 9), (6, 1), (3, 0), (21, 513), (4, 1 << 32), (0, 2), (13, MAX)];
+    let numbers = [1, 2, 3, 4, 6, 8, BAD_FORM, TOO_MANY_CHOICES];
+    for (place, &number) in numbers.iter().enumerate() {
+        assert_eq!(count(&header_with(&words[place..=place])), Err(number));
+        assert_eq!(count(&header_with(&words[place..])), Err(number));
+    }
+    for place in (7..13).chain(15..21).chain(22..63) {
+        assert_eq!(count(&header_with(&[(place, 1)])), Err(BAD_FORM), "unused word {place}");
+    }
+    let mut job = header_with(&[(1, 0), (0, 2)]);
+    job[600] ^= 1;
+    assert_eq!(count(&job), Err(BAD_CHECK));
+    job.pop();
+    assert_eq!(count(&job), Err(BAD_BLOCKS));
+    assert_eq!(count(&[]), Err(BAD_BLOCKS));
+    assert_eq!(count(&[0; 20 * 512]), Err(BAD_BLOCKS));
+    assert_eq!(count(&[0; 19 * 512]), Err(BAD_CHECK));
+}
+
+/// The number by which the tool refuses a job, or what it and the oracle read.
+fn read_alike(bytes: &[u8]) -> Result<(), u64> {
+    let tool = formats::job::read(bytes);
+    let read = |job: Job| (job.code, job.intervals, job.limit, job.memory);
+    let expected = tool.map(|job| (job.code, job.intervals, job.limit, job.memory));
+    assert_eq!(read_job(bytes).map(read), expected);
+    expected.map(|_| ())
+}
+
+#[test]
+fn jobs_are_read_as_the_tool_reads_them() {
+    let mut random = Random(3);
+    let mut numbers = BTreeSet::new();
+    for _ in 0..20_000 {
+        let words = [(0, 1), (1, 126), (2, 8), (3, 7), (4, 3), (5, 1), (13, 5), (20, 9), (21, 63)];
+        let mut header = [0; PAYLOAD_WORDS];
+        words.iter().for_each(|&(place, word)| header[place] = word);
+        for _ in 0..random.below(4) {
+            let place = random.pick(&[0, 1, 2, 3, 4, 5, 12, 13, 20, 21, 22, 62]);
+            header[place] = random.pick(&[0, 1, 2, 8, 9, 125, 127, 512, 513, 1024, 1025, MAX]);
+        }
+        let rest: Vec<u64> = (0..PAYLOAD_WORDS * random.below(4)).map(|_| random.next()).collect();
+        let read = read_alike(&[to_bytes(&header), to_bytes(&rest)].concat());
+        numbers.insert(read.err().unwrap_or(0));
+    }
+    assert_eq!(numbers.into_iter().collect::<Vec<_>>(), [0, 1, 2, 3, 4, 6, 8, 11]);
+}
+
+#[test]
+fn both_ways_of_counting_agree() {
+    let mut random = Random(4);
+    let (mut kinds, mut both) = (BTreeSet::new(), [0; 2]);
+    for _ in 0..5000 {
+        let job = random_job(&mut random);
+        let paths = listing(&job);
+        assert_eq!(listing_by_corners(&job, usize::MAX), paths);
+        let counts = count_choices(&job, &paths);
+        assert_eq!(counts, count_boxes(&paths));
+        kinds.extend(counts.kinds.into_keys());
+        both[0] += (counts.varying > 0) as u64;
+        both[1] += counts.values.values().any(|&choices| choices > 1) as u64;
+    }
+    assert_eq!(kinds.into_iter().collect::<Vec<_>>(), [3, 4, 5, 6, 7, 8, 9]);
+    assert!(both.iter().all(|&count| count > 50), "{both:?}");
+}
+
+#[test]
+fn the_first_paths_of_a_listing() {
+    let job = job(&reads(&stepped(addi(10, 6, 0))), 0, 99, 1000);
+    let paths = listing_by_corners(&job, usize::MAX);
+    assert_eq!((paths.len(), &paths), (100, &listing(&job)));
+    assert_eq!(listing_by_corners(&job, 65), paths[..65]);
 }

@@ -9,6 +9,7 @@ mod oracle;
 #[allow(dead_code)] // every input count is tried here, none is drawn
 mod programs;
 mod reports;
+mod runs;
 
 use formats::blocks::{word, Interval, HIGHS, LOWS};
 use formats::limits::{path_bytes, BLOCK_BYTES, MOST_INPUTS, MOST_ROWS};
@@ -16,9 +17,9 @@ use formats::random::Random;
 use formats::report::read_pages;
 use oracle::{BAD_RECORDS, BAD_ROWS, NO_PATH};
 use reports::{
-    flip, foreign, own_report, record, report_of, with_margins, Foreign, Seen, Test, FILL, MARGIN,
-    MOST_PATHS, NUMBER,
+    foreign, own_report, record, report_of, Damage, Foreign, ReportTest, MOST_PATHS, NUMBER,
 };
+use runs::{flip, with_margins, Seen, Test, FILL, MARGIN};
 use std::fmt;
 
 /// Programs explored, and foreign reports made, for each input count.
@@ -90,7 +91,7 @@ impl fmt::Display for Call<'_> {
 // ---------------------------------------------------------------------------------------------
 // The run.
 
-type Run = reports::Run<Tally>;
+type Run = runs::Run<Tally>;
 
 /// How often each thing was seen.
 #[derive(Default)]
@@ -102,13 +103,14 @@ struct Tally {
     foreign_odd: [u64; 4],
     lengths: [u64; 2],
     long: [u64; 2],
+    damage: Damage,
 }
 
 impl Test for Tally {
-    const NUMBERS: [u64; 3] = [0, BAD_RECORDS, BAD_ROWS];
+    const NUMBERS: &'static [u64] = &[0, BAD_RECORDS, BAD_ROWS];
 
     fn seen(&self) -> Vec<Seen<'_>> {
-        vec![
+        let mut seen: Vec<Seen> = vec![
             ("own reports of several paths, with 1 to 8 inputs", &self.own_reports),
             ("rows outside and inside the starting box", &self.own_rows),
             ("rows again in another order, alone, on a later page", &self.again),
@@ -116,7 +118,15 @@ impl Test for Tally {
             ("with a 0, a MAX, a path numbered MAX, a low above a high", &self.foreign_odd),
             ("lengths of rows and answers, with a good and a bad report", &self.lengths),
             ("long reports accepted and refused", &self.long),
-        ]
+        ];
+        seen.extend(self.damage.seen());
+        seen
+    }
+}
+
+impl ReportTest for Tally {
+    fn damage(&mut self) -> &mut Damage {
+        &mut self.damage
     }
 
     fn lend(run: &mut Run, case: &str, inputs: u64, report: &[u8], readable: Option<bool>) -> bool {

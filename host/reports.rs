@@ -1,47 +1,28 @@
-//! What the tests of calls that read a report share: a run with its counts, our own reports of random
-//! programs, foreign reports, and reports damaged in each way that question 12 asks about.
+//! What the tests of calls that read a report share: our own reports of random programs, foreign
+//! reports, and reports damaged in each way that question 12 asks about.
 
 use crate::library;
 use crate::programs::{large_box, memory_for, program, small_box};
+use crate::runs::{flip, Run, Seen, Test};
 use formats::blocks::{flat, to_bytes, Interval, HIGHS, LOWS};
 use formats::limits::{
     path_bytes, BLOCK_BYTES, MOST_INPUTS, PAYLOAD_WORDS, USUAL_PAGE_PATHS, USUAL_TABLE_WORDS,
 };
 use formats::random::Random;
-use std::fmt::Display;
 
-const FIRST_SEED: u64 = 1;
-const SHOWN_FAILURES: u64 = 3;
 /// Programs tried, on average, before one with a single path is taken.
 const TRIES: usize = 50;
 pub const MOST_PATHS: usize = 200;
 const TWO_BITS: usize = 2000;
 const NOISE: usize = 300;
-/// Elements before and after each lent list, to see that nothing beyond it is written; an odd
-/// number, so that the report is aligned for no word.
-pub const MARGIN: usize = 13;
-pub const FILL: u64 = 0xA5A5_A5A5_A5A5_A5A5;
 
 // Words of a record, beside the lows and highs.
 pub const NUMBER: usize = 0;
 const INPUT_COUNT: usize = 4;
 
-pub fn with_margins<T: Copy>(list: &[T], fill: T) -> Vec<T> {
-    [&[fill; MARGIN][..], list, &[fill; MARGIN]].concat()
-}
-
-// ---------------------------------------------------------------------------------------------
-// A run.
-
-/// How often each of several things was seen, and what they are.
-pub type Seen<'a> = (&'a str, &'a [u64]);
-
-/// What a test has of its own: its counts, and its call.
-pub trait Test: Default {
-    /// What a call answers: 0, 12 and a number of its own.
-    const NUMBERS: [u64; 3];
-
-    fn seen(&self) -> Vec<Seen<'_>>;
+/// A test whose call reads a report.
+pub trait ReportTest: Test {
+    fn damage(&mut self) -> &mut Damage;
 
     /// Lends a report to the call; `readable` is the answer to question 12 where it is known without
     /// the oracle. Says whether the oracle finds the report readable.
@@ -52,69 +33,6 @@ pub trait Test: Default {
         report: &[u8],
         readable: Option<bool>,
     ) -> bool;
-}
-
-pub struct Run<T> {
-    pub random: Random,
-    pub tally: T,
-    numbers: [u64; 3],
-    damage: Damage,
-    seed: u64,
-    differ: u64,
-}
-
-impl<T: Test> Run<T> {
-    /// With the seed that the program is given, or with the first.
-    pub fn start(program: &str) -> Run<T> {
-        let arguments: Vec<String> = std::env::args().skip(1).collect();
-        let seed = match &arguments[..] {
-            [] => Some(FIRST_SEED),
-            [seed] => seed.parse().ok(),
-            _ => None,
-        };
-        let seed = seed.unwrap_or_else(|| {
-            eprintln!("usage: {program} [SEED]");
-            std::process::exit(2)
-        });
-        let (tally, damage) = (T::default(), Damage::default());
-        Run { random: Random(seed), tally, numbers: [0; 3], damage, seed, differ: 0 }
-    }
-
-    /// A call that the oracle answers by this number.
-    pub fn count_call(&mut self, number: u64) {
-        let place = T::NUMBERS.iter().position(|&each| each == number);
-        self.numbers[place.expect("a number of the call")] += 1;
-    }
-
-    pub fn fault(&mut self, case: &str, call: &dyn Display, text: &str) {
-        self.differ += 1;
-        if self.differ <= SHOWN_FAILURES {
-            println!("{case}: {call}: {text}");
-        }
-    }
-
-    /// The number that the oracle found must be the one `known` without it, where one is.
-    pub fn require(&mut self, case: &str, call: &dyn Display, found: u64, known: Option<u64>) {
-        if let Some(number) = known.filter(|&number| number != found) {
-            self.fault(case, call, &format!("the oracle gives {found}, expected {number}"));
-        }
-    }
-
-    /// Ends the program, with 1 if a call differs or if something was never seen.
-    pub fn finish(self) -> ! {
-        let [accepted, unreadable, other] = T::NUMBERS;
-        let answered = format!("calls answered by {accepted}, {unreadable} and {other}");
-        let calls: [Seen; 1] = [(&answered, &self.numbers)];
-        let seen = [&calls[..], &self.tally.seen(), &self.damage.seen()].concat();
-        seen.iter().for_each(|(name, counts)| println!("{name}: {counts:?}"));
-        let unseen = seen.iter().any(|(_, counts)| counts.contains(&0));
-        if unseen {
-            println!("one of these was never seen");
-        }
-        let calls: u64 = self.numbers.iter().sum();
-        println!("{calls} calls with seed {}, {} differ", self.seed, self.differ);
-        std::process::exit((self.differ > 0 || unseen) as i32)
-    }
 }
 
 // ---------------------------------------------------------------------------------------------
@@ -212,7 +130,7 @@ pub fn report_of(records: &[Vec<u64>]) -> Vec<u8> {
 
 /// How often a report was lent that is damaged, or nearly.
 #[derive(Default)]
-struct Damage {
+pub struct Damage {
     bytes: [u64; 4],
     two_bits: [u64; 2],
     repaired: [u64; 2],
@@ -220,7 +138,7 @@ struct Damage {
 }
 
 impl Damage {
-    fn seen(&self) -> [Seen<'_>; 4] {
+    pub fn seen(&self) -> [Seen<'_>; 4] {
         [
             ("flipped bits, last checks, lengths cut to, noise", &self.bytes),
             ("reports with two flipped bits, unreadable and readable", &self.two_bits),
@@ -230,15 +148,11 @@ impl Damage {
     }
 }
 
-pub fn flip(bytes: &mut [u8], bit: usize) {
-    bytes[bit / 8] ^= 1 << (bit % 8);
-}
-
 fn is_count(inputs: u64) -> bool {
     (1..=MOST_INPUTS as u64).contains(&inputs)
 }
 
-impl<T: Test> Run<T> {
+impl<T: ReportTest> Run<T> {
     pub fn damaged_reports(&mut self) {
         for (inputs, count) in [(1, 1), (2, 3), (8, 1), (5, 3)] {
             let foreign = foreign(&mut self.random, inputs, count);
@@ -266,7 +180,7 @@ impl<T: Test> Run<T> {
             flip(&mut report, bit);
             for asked in counts {
                 self.unreadable("a flipped bit", asked, &report);
-                self.damage.bytes[0] += 1;
+                self.tally.damage().bytes[0] += 1;
             }
             flip(&mut report, bit);
         }
@@ -282,7 +196,7 @@ impl<T: Test> Run<T> {
             bits.iter().for_each(|&bit| flip(&mut report, bit));
             let readable = T::lend(self, "two flipped bits", foreign.inputs as u64, &report, None);
             bits.iter().for_each(|&bit| flip(&mut report, bit));
-            self.damage.two_bits[readable as usize] += 1;
+            self.tally.damage().two_bits[readable as usize] += 1;
         }
     }
 
@@ -293,7 +207,7 @@ impl<T: Test> Run<T> {
                 let whole = length % path_bytes(foreign.inputs) == 0;
                 let readable = is_count(asked) && whole && (asked == inputs || length == 0);
                 T::lend(self, "cut to a length", asked, &report[..length], Some(readable));
-                self.damage.bytes[2] += 1;
+                self.tally.damage().bytes[2] += 1;
             }
         }
     }
@@ -307,7 +221,7 @@ impl<T: Test> Run<T> {
                 let (report, count) = (report_of(&records), records[place][INPUT_COUNT]);
                 self.unreadable("word 4", foreign.inputs as u64, &report);
                 T::lend(self, "word 4", count, &report, None);
-                self.damage.repaired[0] += 1;
+                self.tally.damage().repaired[0] += 1;
             }
         }
     }
@@ -320,7 +234,7 @@ impl<T: Test> Run<T> {
                 records[place][word] ^= 1 << self.random.below(64);
                 let report = report_of(&records);
                 T::lend(self, "another word", foreign.inputs as u64, &report, Some(true));
-                self.damage.repaired[1] += 1;
+                self.tally.damage().repaired[1] += 1;
             }
         }
     }
@@ -334,7 +248,7 @@ impl<T: Test> Run<T> {
                 flip(&mut report, bit);
                 self.unreadable("a last check", 3, &report);
                 flip(&mut report, bit);
-                self.damage.bytes[1] += 1;
+                self.tally.damage().bytes[1] += 1;
             }
         }
     }
@@ -346,7 +260,7 @@ impl<T: Test> Run<T> {
             let length = (1 + self.random.below(4)) * path_bytes(inputs) + rest;
             let report = self.random.bytes(length);
             self.unreadable("noise", inputs as u64, &report);
-            self.damage.bytes[3] += 1;
+            self.tally.damage().bytes[3] += 1;
         }
     }
 
@@ -357,16 +271,16 @@ impl<T: Test> Run<T> {
         for asked in (0..=10).chain(large) {
             let readable = Some(is_count(asked));
             T::lend(self, "no record", asked, &[], readable);
-            self.damage.counts[0] += 1;
+            self.tally.damage().counts[0] += 1;
             let whole = [(0, u64::MAX); MOST_INPUTS];
             let record = record(&mut self.random, asked, 7, &whole);
             let report = report_of(&[record.clone(), record]);
             T::lend(self, "its records", asked, &report, readable);
-            self.damage.counts[1] += 1;
+            self.tally.damage().counts[1] += 1;
             for inputs in (1..=MOST_INPUTS).filter(|&inputs| inputs as u64 != asked) {
                 let report = report_of(&foreign(&mut self.random, inputs, 2).records);
                 self.unreadable("another's records", asked, &report);
-                self.damage.counts[2] += 1;
+                self.tally.damage().counts[2] += 1;
             }
         }
     }

@@ -1,63 +1,22 @@
 /* The server's call on job blocks: prints the listing of the job given by name. With one more argument that job, which is Job A's, is
  * changed too: to each set of noes, in each bit and to each length; and noise is served. */
 
-#include <stdbool.h>
-#include <stdlib.h>
-#include <string.h>
+#define CALLER "serving"
+#include "job_lending.h"
 
-#include "../examples/report.h"
-#include "mirokefa.h"
-
-/* Jobs that are too long fit too. */
 enum {
-    BLOCK_BYTES = MIROKEFA_BLOCK_BYTES,
-    MOST_BYTES = MIROKEFA_MOST_BLOCKS * BLOCK_BYTES,
-    ROOM = 2 * MOST_BYTES,
     PATH_BYTES = MIROKEFA_PATH_BYTES(MIROKEFA_MOST_INPUTS),
     REPORT_BYTES = MIROKEFA_USUAL_PAGE_PATHS * PATH_BYTES,
-    NOISE_ROUNDS = 400,
     FILL = 0xAA
 };
 
-/* Document 01's places of the words in a job's header. */
-enum { MARK = 0, CODE_COUNT = 1, INPUT_COUNT = 2, STEP_LIMIT = 3, FIRST_PATH = 4, FIRST_LOW = 5, MEMORY_GIVEN = 21 };
+/* The question on the report comes behind those on the job. */
+enum { REPORT = JOB_QUESTIONS, QUESTIONS };
 
-/* The questions in document 01's order. */
-enum { BLOCKS, CHECK, CODE, INPUTS, ORDER, LIMIT, MEMORY, FIRST, FORM, REPORT, QUESTIONS };
+static const uint64_t report_number[1] = {MIROKEFA_REFUSED_REPORT};
 
-/* The number of a no; for a question on the header also a place, and two words for it that bring the no. */
-struct question {
-    uint64_t number;
-    size_t place;
-    uint64_t words[2];
-};
-
-/* Job A's interval ends at 255. */
-static const struct question questions[QUESTIONS] = {
-    [BLOCKS] = {MIROKEFA_REFUSED_BLOCKS, 0, {0}},
-    [CHECK] = {MIROKEFA_REFUSED_CHECK, 0, {0}},
-    [CODE] = {MIROKEFA_REFUSED_CODE, CODE_COUNT, {0, MIROKEFA_MOST_CODE_WORDS + 1}},
-    [INPUTS] = {MIROKEFA_REFUSED_INPUTS, INPUT_COUNT, {MIROKEFA_MOST_INPUTS + 1, UINT64_MAX}},
-    [ORDER] = {MIROKEFA_REFUSED_ORDER, FIRST_LOW, {256, UINT64_MAX}},
-    [LIMIT] = {MIROKEFA_REFUSED_LIMIT, STEP_LIMIT, {0, MIROKEFA_MOST_STEPS + 1}},
-    [MEMORY] = {MIROKEFA_REFUSED_MEMORY, MEMORY_GIVEN, {MIROKEFA_MEMORY_WORDS + 1, UINT64_MAX}},
-    [FIRST] = {MIROKEFA_REFUSED_FIRST, FIRST_PATH, {MIROKEFA_PATH_NUMBERS, UINT64_MAX}},
-    [FORM] = {MIROKEFA_REFUSED_FORM, MARK, {0, 2}},
-    [REPORT] = {MIROKEFA_REFUSED_REPORT, 0, {0}},
-};
-
-static uint8_t job[ROOM];
-static uint8_t changed[ROOM];
 static uint8_t report[REPORT_BYTES];
 static uint8_t filled[REPORT_BYTES];
-
-static void require(bool holds, const char *what, size_t at)
-{
-    if (!holds) {
-        fprintf(stderr, "serving: %s, at %zu\n", what, at);
-        exit(1);
-    }
-}
 
 /* Serves bytes that are refused with a number; the report stays as it was. */
 static void refuse(const uint8_t *bytes, size_t length, size_t report_bytes, uint64_t number, const char *what, size_t at)
@@ -68,31 +27,19 @@ static void refuse(const uint8_t *bytes, size_t length, size_t report_bytes, uin
     require(memcmp(report, filled, REPORT_BYTES) == 0, "a refusal changed the report", at);
 }
 
-static void put_word(uint8_t *blocks, size_t place, uint64_t value)
+static void refuses_job(const uint8_t *bytes, size_t length, uint64_t number, const char *what, size_t at)
 {
-    for (size_t byte = 0; byte < 8; byte++)
-        blocks[8 * place + byte] = (uint8_t)(value >> 8 * byte);
+    refuse(bytes, length, REPORT_BYTES, number, what, at);
 }
 
-/* The first of a set of noes decides; bit k is the no of question k, which has two causes. */
+/* The first of a set of noes decides. */
 static void refuse_noes(unsigned noes, unsigned cause, size_t length)
 {
-    size_t first = 0;
     size_t report_bytes = REPORT_BYTES;
-    memcpy(changed, job, ROOM);
-    for (size_t k = CODE; k <= FORM; k++)
-        if (noes >> k & 1)
-            put_word(changed, questions[k].place, questions[k].words[cause]);
-    put_word(changed, MIROKEFA_BLOCK_CHECK, check_of(changed));
-    if (noes >> CHECK & 1)
-        changed[(cause + 1) * BLOCK_BYTES - 1] ^= 1;
-    if (noes >> BLOCKS & 1)
-        length = cause == 0 ? length - 1 : MOST_BYTES + BLOCK_BYTES;
     if (noes >> REPORT & 1)
         report_bytes = cause == 0 ? REPORT_BYTES - 1 : 0;
-    while (!(noes >> first & 1))
-        first++;
-    refuse(changed, length, report_bytes, questions[first].number, "the first no does not decide", noes);
+    length = spoil_job(noes, cause, length);
+    refuse(changed, length, report_bytes, number_of(noes, report_number), "the first no does not decide", noes);
 }
 
 static void every_set_of_noes(size_t length)
@@ -100,46 +47,6 @@ static void every_set_of_noes(size_t length)
     for (unsigned noes = 1; noes < 1u << QUESTIONS; noes++) {
         refuse_noes(noes, 0, length);
         refuse_noes(noes, 1, length);
-    }
-}
-
-/* A flipped bit changes one word of a block, and so its check. */
-static void every_flipped_bit(size_t length)
-{
-    for (size_t bit = 0; bit < 8 * length; bit++) {
-        job[bit / 8] ^= (uint8_t)(1u << bit % 8);
-        refuse(job, length, REPORT_BYTES, MIROKEFA_REFUSED_CHECK, "a flipped bit is not 10", bit);
-        job[bit / 8] ^= (uint8_t)(1u << bit % 8);
-    }
-}
-
-static bool whole_blocks(size_t length)
-{
-    return length > 0 && length % BLOCK_BYTES == 0 && length <= MOST_BYTES;
-}
-
-/* Whole blocks that are too few miss the code that the header needs. */
-static void every_truncation(size_t length)
-{
-    for (size_t n = 0; n < length; n++) {
-        uint64_t number = whole_blocks(n) ? MIROKEFA_REFUSED_FORM : MIROKEFA_REFUSED_BLOCKS;
-        refuse(job, n, REPORT_BYTES, number, "a truncation has another number", n);
-    }
-}
-
-static void noise(void)
-{
-    uint64_t state = 1;
-    for (size_t round = 0; round < NOISE_ROUNDS; round++) {
-        for (size_t k = 0; k < ROOM; k++) {
-            state = state * 6364136223846793005u + 1442695040888963407u;
-            changed[k] = (uint8_t)(state >> 56);
-        }
-        size_t length = state % (ROOM + 1);
-        if (round % 2)
-            length -= length % BLOCK_BYTES;
-        uint64_t number = whole_blocks(length) ? MIROKEFA_REFUSED_CHECK : MIROKEFA_REFUSED_BLOCKS;
-        refuse(changed, length, REPORT_BYTES, number, "noise has another number", length);
     }
 }
 
@@ -168,9 +75,7 @@ int main(int count, char **names)
         memset(filled, FILL, REPORT_BYTES);
         memset(report, FILL, REPORT_BYTES);
         every_set_of_noes(length);
-        every_flipped_bit(length);
-        every_truncation(length);
-        noise();
+        refuse_damaged(length);
     }
     return 0;
 }

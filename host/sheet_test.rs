@@ -10,15 +10,15 @@ mod oracle;
 mod programs;
 #[allow(dead_code)] // the boxes of foreign reports are for rows
 mod reports;
+mod runs;
 
 use formats::blocks::{intervals, Interval};
 use formats::limits::{path_bytes, LINE_BYTES, MOST_INPUTS};
 use formats::random::Random;
 use formats::report::{read_pages, Record};
 use oracle::{BAD_RECORDS, SHORT_SHEET};
-use reports::{
-    flip, own_report, record, report_of, with_margins, Seen, Test, FILL, MARGIN, MOST_PATHS, NUMBER,
-};
+use reports::{own_report, record, report_of, Damage, ReportTest, MOST_PATHS, NUMBER};
+use runs::{flip, with_margins, Seen, Test, FILL, MARGIN};
 use std::fmt;
 
 /// Programs explored, and foreign reports made, for each input count.
@@ -92,7 +92,7 @@ fn any_sheet(random: &mut Random, bytes: usize) -> Vec<u8> {
 // ---------------------------------------------------------------------------------------------
 // The run.
 
-type Run = reports::Run<Tally>;
+type Run = runs::Run<Tally>;
 
 /// The numbers on a sheet: path number, kind, reason, low and high.
 const FIELDS: usize = 5;
@@ -112,13 +112,14 @@ struct Tally {
     long: [u64; 3],
     lengths: [u64; 3],
     counts: [u64; 2],
+    damage: Damage,
 }
 
 impl Test for Tally {
-    const NUMBERS: [u64; 3] = [0, BAD_RECORDS, SHORT_SHEET];
+    const NUMBERS: &'static [u64] = &[0, BAD_RECORDS, SHORT_SHEET];
 
     fn seen(&self) -> Vec<Seen<'_>> {
-        vec![
+        let mut seen: Vec<Seen> = vec![
             ("own reports of several paths, with 1 to 8 inputs", &self.own_reports),
             ("own reports whole, first pages, later pages", &self.own_pages),
             ("own paths without a reason and with one", &self.own_paths),
@@ -137,7 +138,15 @@ impl Test for Tally {
             ("long reports accepted, on too short a sheet, unreadable", &self.long),
             ("lengths that are 0, that fit and that do not", &self.lengths),
             ("input counts whose lengths all fit, and do not", &self.counts),
-        ]
+        ];
+        seen.extend(self.damage.seen());
+        seen
+    }
+}
+
+impl ReportTest for Tally {
+    fn damage(&mut self) -> &mut Damage {
+        &mut self.damage
     }
 
     fn lend(run: &mut Run, case: &str, inputs: u64, report: &[u8], readable: Option<bool>) -> bool {

@@ -27,6 +27,8 @@ extern "C" {
 #define MIROKEFA_PATH_NUMBERS (UINT64_C(1) << 32) /* the first path wanted is below this */
 #define MIROKEFA_MOST_ROWS 1024         /* a call places 0 to so many rows */
 #define MIROKEFA_LINE_BYTES 73          /* bytes of a line on a sheet: 72 columns and a line feed */
+#define MIROKEFA_MOST_COUNTED_PATHS 64  /* a job whose choices are counted has at most so many paths */
+#define MIROKEFA_KIND_PLACES 10         /* a place for each number of a kind, and 0 */
 
 /* The table and the page of the course's program; a larger table follows longer paths. */
 #define MIROKEFA_USUAL_TABLE_WORDS 8192
@@ -36,8 +38,8 @@ extern "C" {
 
 /* The first question with the answer no decides. mirokefa_explore asks 1 to 8 in this order;
  * mirokefa_serve asks 9, 10, 1, 2, 3, 4, 6, 8 and 11 of the job, and then 7; mirokefa_place asks 12
- * and then 13, mirokefa_sheet 12 and then 14. A refused call reports no path and changes nothing
- * lent. */
+ * and then 13, mirokefa_sheet 12 and then 14; mirokefa_count asks what mirokefa_serve asks of the
+ * job, and then 15 and 16. A refused call reports no path and changes nothing lent. */
 enum mirokefa_refusal {
     MIROKEFA_ACCEPTED = 0,
     MIROKEFA_REFUSED_CODE = 1,      /* the code is not 1 to 1,024 words */
@@ -54,7 +56,9 @@ enum mirokefa_refusal {
     MIROKEFA_REFUSED_RECORDS = 12,  /* the input count is not 1 to 8, the report is not whole records of that count, a record has another
                                        count, or the check of a block does not agree */
     MIROKEFA_REFUSED_ROWS = 13,     /* the rows are not whole or more than 1,024, or there is not one answer for each */
-    MIROKEFA_REFUSED_SHEET = 14     /* the sheet is shorter than its text */
+    MIROKEFA_REFUSED_SHEET = 14,    /* the sheet is shorter than its text */
+    MIROKEFA_REFUSED_SIZE = 15,     /* the starting box has 2^64 choices or more */
+    MIROKEFA_REFUSED_PATHS = 16     /* the job has more than 64 paths */
 };
 
 /* ---- How a path ends ---- */
@@ -184,6 +188,23 @@ uint64_t mirokefa_sheet(
     uint64_t inputs,
     const uint8_t *report, size_t report_bytes,
     uint8_t *sheet, size_t sheet_bytes);
+
+/* What mirokefa_count answers. Of a refused call every place but the number is 0. */
+struct mirokefa_counts {
+    uint64_t refused;   /* 0 for an accepted call, otherwise the number of a refusal */
+    uint64_t used;      /* how many values there are */
+    uint64_t values[MIROKEFA_MOST_COUNTED_PATHS];   /* the fixed exit values, each once, rising; 0 where unused */
+    uint64_t choices[MIROKEFA_MOST_COUNTED_PATHS];  /* the choices on paths that exit with values[i]; 0 where unused */
+    uint64_t varying;   /* the choices on paths whose exit value is not fixed */
+    uint64_t kinds[MIROKEFA_KIND_PLACES];   /* at the number of each other kind, the choices on its paths; 0 at 0, 1 and 2 */
+    uint64_t total;     /* the choices of the starting box; all the counts above add up to it */
+};
+
+/* How many choices of a job's inputs lead to each exit value, and to each other end? The job is explored as mirokefa_serve does,
+ * and counted from path 0 whatever first path it names. A job without inputs has one choice.
+ *
+ * job        as for mirokefa_serve. Read only. */
+struct mirokefa_counts mirokefa_count(const uint8_t *job, size_t job_bytes);
 
 #ifdef __cplusplus
 }

@@ -1,5 +1,8 @@
 //! The proved library as a host lends to it: a slice passes as a pointer and its length in elements.
 
+use formats::limits::MOST_COUNTED_PATHS;
+use formats::numbers::KIND_PLACES;
+
 /// `refused` is the number of the question that was answered by no, 0 for an accepted call.
 #[repr(C)]
 #[derive(Clone, Copy, Debug, PartialEq, Eq)]
@@ -7,6 +10,19 @@ pub struct Reply {
     pub refused: u64,
     pub count: u64,
     pub more: u64,
+}
+
+/// The choices of a job by what they lead to; every place but `refused` is 0 if the job was turned away.
+#[repr(C)]
+#[derive(Clone, Copy, Debug, PartialEq, Eq)]
+pub struct Counts {
+    pub refused: u64,
+    pub used: u64,
+    pub values: [u64; MOST_COUNTED_PATHS],
+    pub choices: [u64; MOST_COUNTED_PATHS],
+    pub varying: u64,
+    pub kinds: [u64; KIND_PLACES],
+    pub total: u64,
 }
 
 extern "C" {
@@ -44,6 +60,8 @@ extern "C" {
         sheet: *mut u8,
         sheet_bytes: usize,
     ) -> u64;
+
+    fn mirokefa_count(job: *const u8, job_bytes: usize) -> Counts;
 }
 
 pub fn explore(
@@ -102,4 +120,10 @@ pub fn sheet(inputs: u64, report: &[u8], sheet: &mut [u8]) -> u64 {
     unsafe {
         mirokefa_sheet(inputs, report.as_ptr(), report.len(), sheet.as_mut_ptr(), sheet.len())
     }
+}
+
+/// The choices of a job in blocks, counted from path 0.
+pub fn count(job: &[u8]) -> Counts {
+    // SAFETY: as for explore
+    unsafe { mirokefa_count(job.as_ptr(), job.len()) }
 }

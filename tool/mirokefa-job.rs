@@ -1,6 +1,7 @@
-//! Makes, shows and explores jobs, and places rows in their paths. Exploring, placing and the text of a
-//! sheet are done by the proved library; the rest is not proved.
+//! Makes, shows and explores jobs, places rows in their paths and counts their choices. Exploring,
+//! placing, counting and the text of a sheet are done by the proved library; the rest is not proved.
 
+mod count;
 mod library;
 mod place;
 mod sheet;
@@ -110,12 +111,17 @@ fn read_source(name: &str) -> Result<Job> {
     source::assemble(&read_text(name)?).map_err(|faults| line_faults(name, &faults))
 }
 
+/// A job's blocks, which a source is made into.
+fn read_blocks(name: &str) -> Result<Vec<u8>> {
+    if name.ends_with(".s") {
+        return read_source(name).map(|job| job.to_bytes());
+    }
+    read_file(name, MOST_BLOCKS * BLOCK_BYTES)
+}
+
 /// A job from its source or from its blocks.
 fn read_job(name: &str) -> Result<Job> {
-    if name.ends_with(".s") {
-        return read_source(name);
-    }
-    job::read(&read_file(name, MOST_BLOCKS * BLOCK_BYTES)?).map_err(Stop::Refused)
+    job::read(&read_blocks(name)?).map_err(Stop::Refused)
 }
 
 // ---------------------------------------------------------------------------------------------
@@ -236,6 +242,7 @@ fn run(arguments: &[String]) -> Result<Output> {
         ["report", name] => report(name),
         ["explore", name, ..] => explore(name, &arguments[2..]),
         ["place", rule, rows] => place::place(rule, rows),
+        ["count", name] => count::count(name),
         _ => Err(usage()),
     }
 }
@@ -292,7 +299,7 @@ mod tests {
         assert_eq!(paths.join("\n") + "\n", JOB_A_LISTING);
     }
 
-    /// Each flipped bit with a new check, through the library: a refusal or a listing.
+    /// Each flipped bit with a new check, through the library: a listing, or the refusal that counting has too.
     #[test]
     fn damaged_jobs_are_listed_or_refused() {
         let mut listed = 0;
@@ -303,9 +310,14 @@ mod tests {
             block[bit % bits / 8] ^= 1 << (bit % 8);
             let words: Vec<u64> = block.chunks(8).take(PAYLOAD_WORDS).map(blocks::word).collect();
             block.copy_from_slice(&blocks::to_bytes(&words));
-            if let Ok(job) = job::read(&bytes) {
-                assert!(listing_of(&job, &["--paths", "3"]).starts_with("paths "));
-                listed += 1;
+            match job::read(&bytes) {
+                Ok(job) => {
+                    assert!(listing_of(&job, &["--paths", "3"]).starts_with("paths "));
+                    listed += 1;
+                }
+                Err(number) => {
+                    assert_eq!(count::counted(&bytes).err(), Some(Stop::Refused(number)));
+                }
             }
         }
         assert!(listed > 300, "{listed}");
@@ -324,6 +336,9 @@ mod tests {
             &["list", "a"],
             &["place", "a.s"],
             &["place", "a.s", "a.rows", "b.rows"],
+            &["count"],
+            &["count", "a.s", "b.s"],
+            &["count", "a.s", "--sheet"],
         ];
         for words in wrong {
             assert_eq!(run_words(words).err(), Some(usage()));

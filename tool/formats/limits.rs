@@ -13,6 +13,8 @@ pub const PATH_NUMBERS: u64 = 1 << 32;
 pub const MOST_ROWS: usize = 1024;
 /// Bytes of a line on a sheet: 72 columns and a line feed.
 pub const LINE_BYTES: usize = 73;
+/// Paths of a job whose choices are counted, and so the most exit values.
+pub const MOST_COUNTED_PATHS: usize = 64;
 
 /// The last word of a block checks the others.
 pub const BLOCK_WORDS: usize = 64;
@@ -53,6 +55,7 @@ mod tests {
             ("PATH_NUMBERS (UINT64_C(1) <<", PATH_NUMBERS.ilog2() as usize),
             ("MOST_ROWS", MOST_ROWS),
             ("LINE_BYTES", LINE_BYTES),
+            ("MOST_COUNTED_PATHS", MOST_COUNTED_PATHS),
             ("BLOCK_WORDS", BLOCK_WORDS),
             ("BLOCK_BYTES", BLOCK_BYTES),
             ("MOST_BLOCKS", MOST_BLOCKS),

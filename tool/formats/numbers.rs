@@ -4,9 +4,15 @@ use crate::limits::*;
 
 // The highest numbers; the lowest is 1. The first refusals are an exploration's.
 pub const CALL_REFUSALS: u64 = 8;
-pub const REFUSALS: u64 = 14;
+pub const REFUSALS: u64 = 16;
 pub const KINDS: u64 = 9;
 pub const REASONS: u64 = 7;
+
+/// The kind of a path that ends by exit.
+pub const EXITED: u64 = 1;
+
+/// A place for each number of a kind, and 0.
+pub const KIND_PLACES: usize = KINDS as usize + 1;
 
 /// Is it the kind of some path? No. 3 of document 02 leaves 2 unused.
 pub fn kind_occurs(kind: u64) -> bool {
@@ -37,6 +43,8 @@ pub fn refusal_text(number: u64) -> String {
         12 => format!("the input count is not 1 to {MOST_INPUTS}, or the report is not whole records of that count with checks that agree"),
         13 => format!("the rows are not whole or more than {MOST_ROWS}, or there is not one answer for each"),
         14 => "the sheet is shorter than its text".to_string(),
+        15 => "the starting box has 2^64 choices or more".to_string(),
+        16 => format!("the job has more than {MOST_COUNTED_PATHS} paths"),
         _ => "no such refusal".to_string(),
     }
 }
@@ -107,6 +115,12 @@ mod tests {
         check_texts(refusal_text, REFUSALS);
         check_texts(|kind| kind_text(kind).to_string(), KINDS);
         check_texts(|reason| reason_text(reason).to_string(), REASONS);
+    }
+
+    #[test]
+    fn the_header_for_c_has_a_place_for_each_kind() {
+        assert_eq!(in_header("MIROKEFA_KIND_PLACES"), Some(KIND_PLACES as u64));
+        assert_eq!(in_header("MIROKEFA_EXIT ="), Some(EXITED));
     }
 
     #[test]

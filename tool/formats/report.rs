@@ -3,7 +3,7 @@
 use crate::blocks::{intervals, payload, word, Interval};
 use crate::instruction::register_name;
 use crate::limits::{path_bytes, BLOCK_BYTES, MOST_INPUTS, REGISTERS};
-use crate::numbers::{kind_text, reason_text, KINDS};
+use crate::numbers::{kind_text, reason_text, EXITED, KINDS};
 use std::fmt::Write;
 
 // The words of a path's first block, beside the lows and highs; its second block has the number too.
@@ -17,7 +17,6 @@ const EXIT_HIGH: usize = 22;
 const REASON: usize = 23;
 const INPUTS_READ: usize = 24;
 
-const EXITED: u64 = 1;
 const NOT_FOLLOWED: u64 = 8;
 
 /// A path as its record gives it; register 0 is 0..0.

@@ -4,12 +4,12 @@ use mathlib.Core.Path.{_≡_, refl, sym, _∙_, subst}
 use mathlib.Core.Bool.{Bool, true, _&&_, and-eq-true-iff}
 use mathlib.Core.List.{List, [], _∷_}
 use mathlib.Core.Option.{none}
-use Prim.Native.Nat.{ℕ, zero, suc, _*_, _%_, _^_, _≤_, _<_}
+use Prim.Native.Nat.{ℕ, zero, suc, _+_, _*_, _%_, _^_, _≤_, _<_}
 use native.Mathlib.Omega.{arith}
 use lib.Dec.{leb, eqb}
-use lib.ListN.{length}
+use lib.ListN.{length, getD}
 use borrow.Author.Tests.{leb-true, eqb-true}
-use Rattle.boxes.specs.Boxes.{Box, Proper, from, lows, highs, _∈_}
+use Rattle.boxes.specs.Boxes.{Box, _⋯_, Proper, from, lows, highs, _∈_}
 use Rattle.boxes.proofs.Choices.{inside-length}
 use Rattle.listing.specs.Group.{Job}
 use Rattle.listing.specs.Listing.{Path, pathOf, listing}
@@ -45,6 +45,17 @@ unfolding boxOf
 pairs [] e = refl
 pairs (l ∷ []) e = absurd (omega arith)
 pairs (l ∷ (h ∷ v)) e = omega (arith, pairs v (omega arith))
+
+-- and each interval has its two numbers
+pub pair-at : (v : List ℕ) (i : ℕ) → i < length (boxOf v) → getD (boxOf v) i (0 ⋯ 0) ≡ getD v (2 * i + 0) 0 ⋯ getD v (2 * i + 1) 0
+unfolding boxOf
+pair-at [] i h = absurd (omega arith)
+pair-at (l ∷ []) i h = absurd (omega arith)
+pair-at (l ∷ (x ∷ v)) zero h = refl
+pair-at (l ∷ (x ∷ v)) (suc i) h =
+    let a : 2 * suc i + 0 ≡ suc (suc (2 * i + 0)) = omega arith in
+    let b : 2 * suc i + 1 ≡ suc (suc (2 * i + 1)) = omega arith in
+    rw (a, b) (pair-at v i (omega arith))
 
 module _ (memory : List ℕ) (words : ℕ) (c : Call) (e : refusalOf memory words c ≡ none) where
   pub accepted-yes : (q : Refusal) → asks memory words c q ≡ true

@@ -2,9 +2,9 @@
 -- Assumes nothing.
 use mathlib.Core.Path.{_≡_, refl, sym, ap, _∙_}
 use mathlib.Core.Bool.{true}
-use mathlib.Core.List.{List, [], _∷_}
+use mathlib.Core.List.{List}
 use mathlib.Core.Option.{none}
-use Prim.Native.Nat.{ℕ, zero, suc, _+_, _-_, _*_, _/_, _%_, _^_, _≤_, _<_}
+use Prim.Native.Nat.{ℕ, _+_, _-_, _*_, _/_, _%_, _^_, _≤_, _<_}
 use native.Mathlib.Nat.{zero-add, div-mul-le-self}
 use native.Mathlib.Omega.{arith}
 use lib.Dec.{leb, eqb}
@@ -20,7 +20,7 @@ use Rattle.calls.specs.Call.{Call, callOf, Below, boxOf, asks, refusalOf, jobOf
 use Rattle.calls.specs.declared.Refusal.{Refusal}
 use Rattle.calls.specs.declared.Refusal.the-variants.{Inputs, Limit, Memory, Report, First}
 use Rattle.calls.specs.declared.Answer.the-variants.{Page}
-use Rattle.demands.proofs.Accepted.{both, pairs, accepted-yes, accepted-sound}
+use Rattle.demands.proofs.Accepted.{both, pairs, pair-at, accepted-yes, accepted-sound}
 use Rattle.riscu.specs.Limits.{memoryWords}
 use Rattle.calls.specs.Limits.{mostSteps, entryWords, firstEnd}
 use Rattle.decide.specs.declared.Limits.{Limits}
@@ -30,16 +30,6 @@ use Rattle.explorer.specs.Finished.{endsOf, Begins, Finished}
 use Rattle.explorer.specs.declared.Standing.{Standing}
 
 -- the box of whole pairs, by its lows and highs
-
-pair-at : (v : List ℕ) (i : ℕ) → i < length (boxOf v) → getD (boxOf v) i (0 ⋯ 0) ≡ getD v (2 * i + 0) 0 ⋯ getD v (2 * i + 1) 0
-unfolding boxOf
-pair-at [] i h = absurd (omega arith)
-pair-at (l ∷ []) i h = absurd (omega arith)
-pair-at (l ∷ (x ∷ v)) zero h = refl
-pair-at (l ∷ (x ∷ v)) (suc i) h =
-    let a : 2 * suc i + 0 ≡ suc (suc (2 * i + 0)) = omega arith in
-    let b : 2 * suc i + 1 ≡ suc (suc (2 * i + 1)) = omega arith in
-    rw (a, b) (pair-at v i (omega arith))
 
 pub ends-length : (side : ℕ) (v : List ℕ) → length (endsOf side v) ≡ mostInputs
 ends-length side v = length-map (from 0 mostInputs) _ ∙ length-from mostInputs 0

@@ -1,8 +1,11 @@
-// The functions for C: the exploration of a lent job, the server's call on job blocks, rows placed in a report, a report printed and the length of that, as `extern "C"` with the answer in numbers.
+// The functions for C: the exploration of a lent job, the server's call on job blocks, rows placed in a report, a report printed and the
+// length of that, a job's choices counted, as `extern "C"` with the answer in numbers.
 // Each slice comes as a pointer and its length in elements.
 // The archive of this crate, libmirokefa_c.a, is what include/mirokefa.h declares.
 use calls::Outcome;
 use calls::reply;
+use counting::Counted;
+use counting::counting::count;
 use engine::explore;
 use reports::answer_number;
 use reports::placing::place;
@@ -13,6 +16,7 @@ use sheets::sheet::print_sheet;
 use sheets::sheet_answer_number;
 ghost use mathlib.Core.Path.{_≡_};
 ghost use Rattle.calls.specs.Border.{replyOf, callLent, calledOn};
+ghost use Rattle.counting.specs.Count.{counted};
 ghost use Rattle.reports.specs.Placing.{answerNumber, placedOn};
 ghost use Rattle.serving.specs.Served.{outcomeOf, servedOn};
 ghost use Rattle.sheets.specs.Sheet.{sheetBytes, sheetAnswerNumber, printedOn};
@@ -77,4 +81,12 @@ pub extern "C" fn mirokefa_sheet(inputs: u64, report: &[u8], sheet: &mut [u8]) -
 {
     let a = print_sheet(inputs, report, sheet);
     sheet_answer_number(a)
+}
+
+// How many choices of a job lead to each exit value, and to each other end?
+#[no_mangle]
+pub extern "C" fn mirokefa_count(job: &[u8]) -> Counted
+    ensures { λ r. ⌜ r ≡ counted (now (job .entry)) ⌝ }
+{
+    count(job)
 }

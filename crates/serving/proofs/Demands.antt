@@ -33,16 +33,11 @@ use Rattle.serving.specs.Served.{tableWords, reply, servedAs, isListed, 
 use Rattle.serving.specs.Server.{Bytes, ServedCall, Made, callBy, memoryBy, serverQuestions, reportFits, serverAsks, ServedResponds, zeros, exchangeBy, exchangesOf, ServedTogether}
 use Rattle.serving.specs.declared.Served.{Served}
 use Rattle.serving.specs.declared.Served.the-variants.{Refused, Listed}
-use Rattle.serving.proofs.JobPassed.{listed-passes}
+use Rattle.serving.proofs.JobPassed.{served-refused, listed-passes}
 use Rattle.serving.proofs.Lent.{lent}
 
 pub zeros-length : length zeros ≡ tableWords
 zeros-length = length-replicate {A = ℕ} tableWords 0
-
--- a job that a question refuses: the refusal, and the report as lent
-served-refused : {r : JobRefusal} (job report : List ℕ) → jobRefusalOf job ≡ some r → served job report ≡ servedLeft (Refused r) report
-unfolding served servedBy
-served-refused job report e = rw e
 
 -- a job that passes its questions is refused by question 7 alone, and otherwise listed
 module _ (bytes report : List ℕ) (e : jobRefusalOf bytes ≡ none) where

@@ -36,16 +36,15 @@ unfolding called
 explored-reply a report table words memory c e n = ap (λ (l : Left). l .reply) e ∙ ap (λ (k : ℕ). replyTo memory k c) n
 
 module _ (job code intervals memory : List ℕ) (c i m : List ℕ) where
-  pub read-refused : {r : JobRefusal} → jobLeft (Refused r) c i m ≡ readTo job code intervals memory → (report : List ℕ)
-      → servedLeft (served.Refused r) report ≡ served job report
-  unfolding readTo readBy served servedBy
-  read-refused {r} e report = go (jobRefusalOf job) e
+  pub read-refused : {r : JobRefusal} → jobLeft (Refused r) c i m ≡ readTo job code intervals memory → jobRefusalOf job ≡ some r
+  unfolding readTo readBy
+  read-refused {r} e = go (jobRefusalOf job) e
     where
-      go : (o : Option JobRefusal) → jobLeft (Refused r) c i m ≡ readBy job code intervals memory o → servedLeft (served.Refused r) report ≡ servedBy job report o
+      go : (o : Option JobRefusal) → jobLeft (Refused r) c i m ≡ readBy job code intervals memory o → o ≡ some r
       go (some q) e =
           let a : Refused r ≡ Refused q = ap (λ (l : JobLeft). l .answer) e in
-          let b : r ≡ q = cc in
-          ap (λ (x : JobRefusal). servedLeft (served.Refused x) report) b
+          let b : q ≡ r = cc in
+          ap (λ (x : JobRefusal). some x) b
       go none e =
           let a : Refused r ≡ Read (countsIn job) = ap (λ (l : JobLeft). l .answer) e in
           let z : _≡_ {A = ℕ} 0 1 = cc in
@@ -100,15 +99,24 @@ module _ (job code intervals memory : List ℕ) (c i m : List ℕ) where
     pub memory-length : memoryWords ≡ length m
     memory-length = rw (o .memory-is) (sym (memory-read job (yes-sized job (o .passes) .given)))
 
+    pub code-taken : take (k .code) c ≡ codeIn job
+    code-taken = rw (o .code-is) (over-taken (codeIn job) code code-count)
+
+    pub intervals-taken : take (2 * k .inputs) i ≡ intervalsIn job
+    intervals-taken = rw (o .intervals-is) (over-taken (intervalsIn job) intervals intervals-count)
+
     pub served-open : (a : Answer) (report left : List ℕ)
         → reply a left ≡ replyTo m tableWords (callOf (take (k .code) c) (take (2 * k .inputs) i) (k .limit) report (k .first))
         → servedLeft (servedAs a) left ≡ served job report
     unfolding served servedBy jobRead
     served-open a report left e =
-        let p : take (k .code) c ≡ codeIn job = rw (o .code-is) (over-taken (codeIn job) code code-count) in
-        let q : take (2 * k .inputs) i ≡ intervalsIn job = rw (o .intervals-is) (over-taken (intervalsIn job) intervals intervals-count) in
-        let f = rw (p, q, o .memory-is, o .counts) at e in
+        let f = rw (code-taken, intervals-taken, o .memory-is, o .counts) at e in
         rw (o .passes) (ap (λ (y : Reply). servedLeft (servedAs (y .answer)) (y .report)) f)
+
+-- a job that a question refuses: the refusal, and the report as lent
+pub served-refused : {r : JobRefusal} (job report : List ℕ) → jobRefusalOf job ≡ some r → served job report ≡ servedLeft (served.Refused r) report
+unfolding served servedBy
+served-refused job report e = rw e
 
 -- only a job that passes its questions is listed
 pub listed-passes : {n : ℕ} {m : Bool} (job report : List ℕ) → served job report .answer ≡ served.Listed n m → jobRefusalOf job ≡ none

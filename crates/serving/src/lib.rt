@@ -32,8 +32,8 @@ pub enum Served {
     Listed { count: u64, more: bool },
 }
 
-// Explores what was read.
-fn explore_read(
+// Explores what was read, with the program's table.
+pub fn explore_read(
     code: &[u32],
     intervals: &[u64],
     memory: &[u64],

@@ -1,5 +1,5 @@
-use Rattle.serving.proofs.JobPassed.{read-refused, read-passed, code-few, inputs-few, code-length, intervals-length, memory-length, served-open}
-use mathlib.Core.Path.{_≡_}
+use Rattle.serving.proofs.JobPassed.{read-refused, read-passed, code-few, inputs-few, code-length, intervals-length, memory-length, served-open, served-refused}
+use mathlib.Core.Path.{_≡_, sym}
 use lib.ListN.{length, replicate, length-replicate}
 use Prim.Native.Nat.{ℕ, _*_}
 use Rattle.riscu.specs.Limits.{codeWords}
@@ -39,7 +39,7 @@ explore-read-requires c κs =
     )
 
 returns : tie.Need-returns
-returns c = read-refused (now (c .before .before .before .before .before .before .before .before .before .args .job)) _ _ _ _ _ _ (rw (c .before .answer .given .1) at (c .before .before .before .read-job .ensures)) _
+returns c = sym (served-refused _ _ (read-refused (now (c .before .before .before .before .before .before .before .before .before .args .job)) _ _ _ _ _ _ (rw (c .before .answer .given .1) at (c .before .before .before .read-job .ensures))))
 
 returns-2 : tie.Need-returns-2
 returns-2 c =
