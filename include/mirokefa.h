@@ -200,7 +200,7 @@ struct mirokefa_counts {
     uint64_t total;     /* the choices of the starting box; all the counts above add up to it */
 };
 
-/* How many choices of a job's inputs lead to each exit value, and to each other end? The job is explored as mirokefa_serve does,
+/* How many choices of a job's inputs lead to each exit value, and to each other end? The job is explored as by mirokefa_serve,
  * and counted from path 0 whatever first path it names. A job without inputs has one choice.
  *
  * job        as for mirokefa_serve. Read only. */

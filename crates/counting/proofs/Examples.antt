@@ -15,7 +15,7 @@ use Rattle.listing.specs.Group.{Job, after, sortOf, comparison, sortingOf, clas
 use Rattle.listing.specs.Ending.{first, operationPoints, operandPoints, addressPoints, points}
 use Rattle.listing.specs.Ending.{writes, needs, endAt, endBy}
 use Rattle.listing.specs.Listing.{pathOf, splitBy, moveBy, moveFrom, moves, begin, enough, listing}
-use Rattle.counting.specs.Counting.{isExit, isFixed, exitVaries, exitsWith, endsAs, isInside, isOn, choicesOn, placed, rising, exitValues, inPlaces, countsBy, countsOf}
+use Rattle.counting.specs.Counting.{isExit, isFixed, exitVaries, exitsWith, otherKind, isInside, isOn, choicesOn, inserted, rising, exitValues, inPlaces, countsBy, countsOf}
 use Rattle.counting.specs.declared.Counted.{Counted}
 
 -- code, limit and box, with the program's table; and values with their choices, the exits that vary, each kind, the total
@@ -63,7 +63,7 @@ abbrev expected : Job × Counted → Counted
 expected x = x .1
 
 pub counts-right : map computed table ≡ map expected table
-unfolding countsOf countsBy choicesOn isOn isInside isExit isFixed exitVaries exitsWith endsAs placed rising exitValues
+unfolding countsOf countsBy choicesOn isOn isInside isExit isFixed exitVaries exitsWith otherKind inserted rising exitValues
     listing enough moves moveFrom moveBy splitBy pathOf begin
     endBy endAt needs writes points addressPoints operandPoints operationPoints first
     from width values choices flatMap size best least greatest every same low high fixed keep classes hull piece pieces

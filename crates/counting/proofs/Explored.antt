@@ -3,14 +3,14 @@
 use mathlib.Core.Path.{_≡_, sym, ap, _∙_, subst}
 use mathlib.Core.Bool.{Bool, true, false, false≢true}
 use mathlib.Core.List.{List, map, map-map}
-use mathlib.Core.Option.{none, some}
+use mathlib.Core.Option.{none}
 use Prim.Native.Nat.{ℕ, _+_, _-_, _^_, _≤_, _<_, min}
 use native.Mathlib.Nat.{zero-add}
 use native.Mathlib.Omega.{arith}
 use borrow.Author.Tests.{ltb-true, ltb-false, lt-leb, le-leb}
 use lib.Dec.{ltb}
 use lib.ListN.{length}
-use Rattle.boxes.specs.Boxes.{size, Proper, _∈_}
+use Rattle.boxes.specs.Boxes.{size}
 use Rattle.boxes.proofs.Places.{place-mem, place-below, place-exists}
 use Rattle.listing.specs.Group.{Job}
 use Rattle.listing.specs.Listing.{Path, listing}
@@ -29,9 +29,9 @@ use Rattle.corners.specs.Good.{Sound}
 use Rattle.demands.proofs.Accepted.{accepted-sound, job-inputs, inputs-counted, path-inputs}
 use Rattle.demands.proofs.Reported.{reported}
 use Rattle.serving.specs.Served.{tableWords, reply}
-use Rattle.counting.specs.Counting.{Result, resultOf, mostPaths, kindPlaces, countsBy, countsOf, choicesOn}
+use Rattle.counting.specs.Counting.{Result, resultOf, mostPaths, kindPlaces, countsBy, countsOf}
 use Rattle.counting.specs.Count.{pathsFit}
-use Rattle.counting.specs.Adding.{boxAt, partAt, partOf, partsIn, Part, sumOn, sumAll, addedUp, Adds}
+use Rattle.counting.specs.Adding.{boxAt, partAt, partOf, partsIn, Part, sumOn, addedUp, Adds}
 use Rattle.counting.proofs.Parts.{box-told, part-told, map-places}
 use Rattle.counting.proofs.Sums.{choices-sum, sum-all, path-proper}
 

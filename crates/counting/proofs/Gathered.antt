@@ -11,7 +11,7 @@ use Rattle.boxes.specs.Boxes.{keep}
 use Rattle.boxes.proofs.Lists.{by-test}
 use Rattle.counting.specs.Counting.{Result, isFixed, exitsWith, exitValues, mostPaths, inPlaces}
 use Rattle.counting.specs.Promised.{addAll}
-use Rattle.counting.specs.Adding.{Part, sumOn, sumAll, resultsOf, Entry, entry, joined, sumOf, carried, laid, Room, Along}
+use Rattle.counting.specs.Adding.{Part, sumOn, sumAll, resultsOf, Entry, entry, joined, sumOf, carried, laid, Room, AddedTo}
 use Rattle.counting.proofs.Sliding.{nothing}
 use Rattle.counting.proofs.Tallies.{valueOf, countOf, tally, tally-rises, tally-sum, insert-length, carries, entryOf, fixedEntries}
 use Rattle.counting.proofs.Tallies.{tally-few, tally-values, tally-counts, entries-sum}
@@ -125,7 +125,7 @@ module _ {ps : List Part} {vs cs : List ℕ} {used : ℕ} where
       record { place = omega arith; even = omega arith; fits = omega arith }
 
   pub more-gathered : {vs' cs' : List ℕ} {r : ℕ} → Gathered ps vs cs used → (p : Part) → isFixed (p .result) ≡ true
-      → length vs' ≡ length vs → length cs' ≡ length cs → Along vs cs vs' cs' used r (entry (p .result .low) (p .choices))
+      → length vs' ≡ length vs → length cs' ≡ length cs → AddedTo vs cs vs' cs' used r (entry (p .result .low) (p .choices))
       → Gathered (p ∷ ps) vs' cs' r
   unfolding tally
   more-gathered a p f v c s =

@@ -8,19 +8,17 @@ use native.Mathlib.Nat.{zero-add}
 use native.Mathlib.Omega.{arith}
 use native.Mathlib.Decide.{ℕ-discrete}
 use borrow.Author.Tests.{eq-eqb, ne-eqb}
-use lib.Dec.{eqb}
 use lib.ListN.{length, getD, set, drop, replicate, length-map, length-set, length-drop, drop-of-length-le}
 use lib.Seq.{drop-cons, ext-getD, getD-set-same, getD-set-other}
-use Rattle.boxes.specs.Boxes.{Box, from, size}
+use Rattle.boxes.specs.Boxes.{from, size}
 use Rattle.boxes.proofs.Lists.{map-cong, from-at, length-from}
 use Rattle.blocks.specs.Block.{wordAt}
 use Rattle.blocks.specs.Layout as layout
 use Rattle.blocks.specs.Report.{recordAt}
 use Rattle.listing.specs.Numbers.{kindNumber}
 use Rattle.listing.specs.declared.End.the-variants.{Exit}
-use Rattle.counting.specs.Counting.{isExit, isFixed, exitVaries, endsAs, mostPaths, kindPlaces, countsBy}
-use Rattle.counting.specs.Adding.{Countable, Part, boxAt, partAt, partsIn, sumOn, sumAll, addedUp, Adds, entry, Room, Along}
-use Rattle.counting.specs.declared.Counted.{Counted}
+use Rattle.counting.specs.Counting.{isExit, isFixed, exitVaries, otherKind, mostPaths, kindPlaces, countsBy}
+use Rattle.counting.specs.Adding.{FitsWord, Part, boxAt, partAt, partsIn, sumOn, sumAll, addedUp, Adds, entry, Room, AddedTo}
 use Rattle.counting.proofs.Gathered.{Gathered, none-gathered, other-gathered, gathered-room, more-gathered, gathered-values, gathered-choices, gathered-used, sum-most}
 
 abbrev pub part : ℕ → ℕ → ℕ → ℕ → Part
@@ -28,7 +26,7 @@ part kind low high n = record { result = record { kind = kind; low = low; high =
 
 -- the choices of each other kind
 abbrev kindSums : List Part → List ℕ
-kindSums ps = map (λ (k : ℕ). sumOn (endsAs k) ps) (from 0 kindPlaces)
+kindSums ps = map (λ (k : ℕ). sumOn (otherKind k) ps) (from 0 kindPlaces)
 
 pub record Held (ps : List Part) (values choices kinds : List ℕ) (used varying : ℕ) : Type 0 where
   pub gathered : Gathered ps values choices used
@@ -38,21 +36,21 @@ pub record Held (ps : List Part) (values choices kinds : List ℕ) (used varying
 sums-length : (ps : List Part) → length (kindSums ps) ≡ kindPlaces
 sums-length ps = length-map (from 0 kindPlaces) _ ∙ length-from kindPlaces 0
 
-sum-at : (ps : List Part) (k : ℕ) → k < kindPlaces → getD (kindSums ps) k 0 ≡ sumOn (endsAs k) ps
-sum-at ps k h = from-at (λ (i : ℕ). sumOn (endsAs i) ps) 0 kindPlaces 0 k h ∙ rw zero-add
+sum-at : (ps : List Part) (k : ℕ) → k < kindPlaces → getD (kindSums ps) k 0 ≡ sumOn (otherKind k) ps
+sum-at ps k h = from-at (λ (i : ℕ). sumOn (otherKind i) ps) 0 kindPlaces 0 k h ∙ rw zero-add
 
 pub none-held : {ps : List Part} → ps ≡ [] → Held ps (replicate mostPaths 0) (replicate mostPaths 0) (replicate kindPlaces 0) 0 0
 unfolding sumOn from
 none-held e = rw e (record { gathered = none-gathered; others = refl; varies = refl })
 
 module _ {ps : List Part} {values choices kinds : List ℕ} {used varying : ℕ} (h : Held ps values choices kinds used varying) where
-  sum-held : (k : ℕ) → k < kindPlaces → getD kinds k 0 ≡ sumOn (endsAs k) ps
+  sum-held : (k : ℕ) → k < kindPlaces → getD kinds k 0 ≡ sumOn (otherKind k) ps
   sum-held k l = ap (λ (ks : List ℕ). getD ks k 0) (h .others) ∙ sum-at ps k l
 
   -- nothing overflows
   module _ (n : ℕ) (f : n + sumAll ps < 2 ^ 64) where
     pub kind-fits : (k : ℕ) → k < kindPlaces → getD kinds k 0 + n < 2 ^ 64
-    kind-fits k l = omega (arith, sum-held k l, sum-most (endsAs k) ps)
+    kind-fits k l = omega (arith, sum-held k l, sum-most (otherKind k) ps)
 
     pub varying-fits : varying + n < 2 ^ 64
     varying-fits = omega (arith, h .varies, sum-most exitVaries ps)
@@ -67,14 +65,14 @@ module _ {ps : List Part} {values choices kinds : List ℕ} {used varying : ℕ}
 
     -- an exit leaves the other kinds as they were
     exit-others : kind ≡ kindNumber Exit → kinds ≡ kindSums (p ∷ ps)
-    unfolding sumOn endsAs isExit
+    unfolding sumOn otherKind isExit
     exit-others e =
         h .others
-        ∙ map-cong (λ (k : ℕ). sumOn (endsAs k) ps) (λ (k : ℕ). sumOn (endsAs k) (p ∷ ps)) (from 0 kindPlaces)
-        (λ k m. rw (eq-eqb kind (kindNumber Exit) e) (sym (zero-add (sumOn (endsAs k) ps))))
+        ∙ map-cong (λ (k : ℕ). sumOn (otherKind k) ps) (λ (k : ℕ). sumOn (otherKind k) (p ∷ ps)) (from 0 kindPlaces)
+        (λ k m. rw (eq-eqb kind (kindNumber Exit) e) (sym (zero-add (sumOn (otherKind k) ps))))
 
     other-sums : kind ≢ kindNumber Exit → kind < kindPlaces → set kinds kind (getD kinds kind 0 + n) ≡ kindSums (p ∷ ps)
-    unfolding sumOn endsAs isExit
+    unfolding sumOn otherKind isExit
     other-sums e l =
         let more = getD kinds kind 0 + n in
         let size = ap length (h .others) ∙ sums-length ps in
@@ -84,7 +82,7 @@ module _ {ps : List Part} {values choices kinds : List ℕ} {used varying : ℕ}
         let b : i < kindPlaces = omega (arith, size, length-set kinds kind more) in
         elim (ℕ-discrete i kind) [
           | yes d ↦ rw d (getD-set-same kinds kind more 0 (omega (arith, size)) ∙ sym (sum-at (p ∷ ps) kind l ∙ rw (x, eq-eqb kind kind refl) (omega (arith, sum-held kind l))))
-          | no d ↦ getD-set-other kinds kind i more 0 d ∙ sum-held i b ∙ sym (sum-at (p ∷ ps) i b ∙ rw (x, ne-eqb kind i (λ z. d (sym z))) (zero-add (sumOn (endsAs i) ps)))
+          | no d ↦ getD-set-other kinds kind i more 0 d ∙ sum-held i b ∙ sym (sum-at (p ∷ ps) i b ∙ rw (x, ne-eqb kind i (λ z. d (sym z))) (zero-add (sumOn (otherKind i) ps)))
         ])
 
     pub other-held : kind ≢ kindNumber Exit → kind < kindPlaces → Held qs values choices (set kinds kind (getD kinds kind 0 + n)) used varying
@@ -111,7 +109,7 @@ module _ {ps : List Part} {values choices kinds : List ℕ} {used varying : ℕ}
         })
 
     pub fixed-held : {values' choices' : List ℕ} {r : ℕ} → kind ≡ kindNumber Exit → low ≡ high → length values' ≡ length values → length choices' ≡ length choices
-        → Along values choices values' choices' used r (entry low n) → Held qs values' choices' kinds r varying
+        → AddedTo values choices values' choices' used r (entry low n) → Held qs values' choices' kinds r varying
     unfolding sumOn exitVaries isFixed isExit
     fixed-held e d v c a =
         let x = eq-eqb kind (kindNumber Exit) e in
@@ -129,7 +127,7 @@ sum-drop ps zero = omega arith
 sum-drop [] (suc k) = omega arith
 sum-drop (p ∷ ps) (suc k) = omega (arith, sum-drop ps k)
 
-module _ (report : List ℕ) (inputs count total : ℕ) (a : Adds report inputs count total) where
+module _ {report : List ℕ} {inputs count total : ℕ} (a : Adds report inputs count total) where
   abbrev parts : List Part
   parts = partsIn inputs report count
 
@@ -157,13 +155,13 @@ module _ (report : List ℕ) (inputs count total : ℕ) (a : Adds report inputs 
     unfolding sumAll
     next-fits = omega (arith, ap sumAll next, sum-drop parts (k - 1), a .sum, a .fits)
 
-    pub next-few : suc (length (drop k parts)) ≤ mostPaths
-    next-few = omega (arith, length-drop k parts, parts-length, a .few)
+  pub next-few : (k : ℕ) → 0 < k → k ≤ count → suc (length (drop k parts)) ≤ mostPaths
+  next-few k some few = omega (arith, length-drop k parts, parts-length, a .few)
 
   pub kind-below : {k kind : ℕ} → 0 < k → k ≤ count → kind ≡ wordAt (recordAt inputs report (k - 1)) layout.kind → kind < kindPlaces
   kind-below {k} some few e = omega (arith, a .kinds (k - 1) (omega arith))
 
-  pub size-countable : (k : ℕ) → 0 < k → k ≤ count → Countable (boxAt inputs (recordAt inputs report (k - 1)))
+  pub size-countable : (k : ℕ) → 0 < k → k ≤ count → FitsWord (boxAt inputs (recordAt inputs report (k - 1)))
   size-countable k some few =
       record { proper = a .proper (k - 1) (omega arith); fits = omega (arith, next-fits some few refl refl refl refl) }
 

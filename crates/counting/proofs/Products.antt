@@ -94,8 +94,8 @@ module _ (b : Box) (proper : Proper b) {n i low high : ℕ} (h : i < length b) (
       rw (le-ltb (size b) (2 ^ 64) (omega (arith, product-fits)))
 
 -- otherwise it is a word
-pub small-enough : (n : ℕ) {more : ℕ} → more < maxWord / n → n * (more + 1) ≤ maxWord
-small-enough n {more} l =
+pub small-enough : (n more : ℕ) → more < maxWord / n → n * (more + 1) ≤ maxWord
+small-enough n more l =
     let r : n * (more + 1) ≤ n * (maxWord / n) = mul-le-mul-left n (omega arith) in
     omega (arith, mul-div-le maxWord n)
 

@@ -1,20 +1,22 @@
 -- What a call answers: its refusals, and that its counts are those of the job's choices and add up to all of them.
 -- Assumes nothing.
 use mathlib.Core.Path.{_≡_, refl, sym, ap, _∙_, subst}
-use mathlib.Core.Bool.{Bool, true, _&&_, and-eq-true-iff, true≢false}
-use mathlib.Core.Logic.{_↔_, Iff·trans, _⊎_, inl, inr, ⊎-elim}
-use mathlib.Core.List.{List, [], _∷_, _++_, map, Memᴰ·map, Memᴰ·of-map, Memᴰ·append-left, Memᴰ·append-right, List·Memᴰ·head as here, List·Memᴰ·tail as there}
+use mathlib.Core.Bool.{Bool, true, _&&_, not, and-eq-true-iff, false≢true}
+use mathlib.Core.Logic.{_↔_, Iff·trans, _⊎_, inl, inr}
+use mathlib.Core.List.{List, [], _∷_, map, map-map, Memᴰ·map, Memᴰ·of-map, Memᴰ·append-left, Memᴰ·append-right, List·Memᴰ·head as here, List·Memᴰ·tail as there}
 use mathlib.Core.Option.{Option, none, some}
-use Prim.Native.Nat.{ℕ, zero, suc, _+_, _-_, _^_, _<_}
+use Prim.Native.Nat.{ℕ, zero, suc, _+_, _-_, _^_, _≤_, _<_}
+use native.Mathlib.Nat.{zero-add}
 use native.Mathlib.Omega.{arith}
-use borrow.Author.Tests.{ltb-true, eqb-true, eq-eqb}
+use borrow.Author.Tests.{ltb-true, leb-true, eqb-true, eq-eqb}
 use lib.Dec.{eqb}
-use lib.ListN.{length, getD, take, replicate, length-map, List·getD-eq-default}
+use lib.ListN.{length, getD, replicate, length-map, List·getD-eq-default}
 use lib.Seq.{take-append-seam}
 use Rattle.boxes.specs.Boxes.{Choice, Inside, lows, choices, size, keep, _∈_}
-use Rattle.boxes.proofs.Choices.{mem-choices, lows-inside}
-use Rattle.boxes.proofs.Lists.{by-test, keep-mem, mem-keep}
+use Rattle.boxes.proofs.Choices.{mem-choices}
+use Rattle.boxes.proofs.Lists.{by-test, from-at, keep-mem, mem-keep, keep-none}
 use Rattle.boxes.proofs.Places.{nonempty, mem-place, place-mem}
+use Rattle.blocks.specs.Record.{exitOf}
 use Rattle.blocks.proofs.Bytes.{getD-padded}
 use Rattle.listing.specs.Group.{Job}
 use Rattle.listing.specs.Listing.{Path, listing}
@@ -28,10 +30,10 @@ use Rattle.calls.specs.Complete.{IsPath}
 use Rattle.calls.proofs.Asked.{all-yes, first-no}
 use Rattle.jobs.specs.Job.{jobAsks, jobQuestions, jobRefusalOf}
 use Rattle.reports.proofs.Numbers.{says-done, says-refused}
-use Rattle.counting.specs.Counting.{Result, resultOf, isExit, isFixed, exitsWith, isInside, isOn, choicesOn, exitValues, mostPaths, kindPlaces, countsBy, countsOf}
-use Rattle.counting.specs.Count.{jobIn, sizeFits, pathsFit, countAsks, countQuestions, countNumber, turnedAway, countedBy, counted}
-use Rattle.counting.specs.Adding.{Part, partOf, addedUp}
-use Rattle.counting.specs.Promised.{addAll, Exits, Sums, Counts}
+use Rattle.counting.specs.Counting.{Result, resultOf, isExit, isFixed, exitsWith, otherKind, isOn, choicesOn, exitValues, mostPaths, kindPlaces, countsBy, countsOf}
+use Rattle.counting.specs.Count.{jobFrom, countAsks, countQuestions, countNumber, countedBy, counted}
+use Rattle.counting.specs.Adding.{Part, partOf, sumOn, addedUp}
+use Rattle.counting.specs.Promised.{addAll, SomePath, AllExitWith, JobCounts, CountsCall}
 use Rattle.counting.specs.declared.Counted.{Counted}
 use Rattle.counting.specs.declared.CountRefusal.{CountRefusal}
 use Rattle.counting.specs.declared.CountRefusal.the-variants as refusal
@@ -39,8 +41,8 @@ use Rattle.counting.proofs.Explored.{kind-below, counts-are}
 use Rattle.counting.proofs.Numbers.{count-number-positive, count-number-injective}
 use Rattle.counting.proofs.Widths.{size-widths}
 use Rattle.counting.proofs.Read.{job-sound}
-use Rattle.counting.proofs.Sums.{on-path, path-on, sum-all}
-use Rattle.counting.proofs.Tallies.{values-rise, rising-mem}
+use Rattle.counting.proofs.Sums.{on-path, path-on, choices-sum, sum-all}
+use Rattle.counting.proofs.Tallies.{values-rise, rising-mem, values-few}
 use Rattle.counting.proofs.Totals.{counts-add}
 
 kind-exit : (e : End) → kindNumber e ≡ kindNumber Exit → e ≡ Exit
@@ -52,6 +54,17 @@ kind-exit BadCall k = absurd (omega arith)
 kind-exit StepLimit k = absurd (omega arith)
 kind-exit (NotFollowed r) k = absurd (omega arith)
 kind-exit TraceFull k = absurd (omega arith)
+
+-- every other kind has a number above 2
+other-kind : (e : End) (k : ℕ) → not (eqb (kindNumber e) (kindNumber Exit)) && eqb (kindNumber e) k ≡ true → 3 ≤ k
+other-kind Exit k t = absurd (false≢true t)
+other-kind BadPc k t = omega (arith, eqb-true 3 k t)
+other-kind BadWord k t = omega (arith, eqb-true 4 k t)
+other-kind BadAddress k t = omega (arith, eqb-true 5 k t)
+other-kind BadCall k t = omega (arith, eqb-true 6 k t)
+other-kind StepLimit k t = omega (arith, eqb-true 7 k t)
+other-kind (NotFollowed r) k t = omega (arith, eqb-true 8 k t)
+other-kind TraceFull k t = omega (arith, eqb-true 9 k t)
 
 -- what a test for an exit value says
 with-value : (x : ℕ) (r : Result) → exitsWith x r ≡ true → (r .kind ≡ kindNumber Exit) × (r .low ≡ x) × (r .high ≡ x)
@@ -71,6 +84,14 @@ getD-mapped : (f : ℕ → ℕ) (l : List ℕ) (i : ℕ) → i < length l → ge
 getD-mapped f [] i h = absurd (omega arith)
 getD-mapped f (x ∷ l) zero h = refl
 getD-mapped f (x ∷ l) (suc i) h = getD-mapped f l i (omega arith)
+
+parts-sizes : (test : Result → Bool) (ps : List Path)
+    → sumOn test (map partOf ps) ≡ addAll (map (λ (p : Path). size (p .box)) (keep (λ (p : Path). test (resultOf p)) ps))
+unfolding sumOn addAll keep
+parts-sizes test [] = refl
+parts-sizes test (p ∷ ps) =
+    let ih = parts-sizes test ps in
+    by-test (test (resultOf p)) (λ t. rw t (ap (λ (n : ℕ). size (p .box) + n) ih)) (λ t. rw t (zero-add _ ∙ ih))
 
 -- the counts of a sound job
 module _ (j : Job) (sound : Sound j (j .box)) where
@@ -109,27 +130,55 @@ module _ (j : Job) (sound : Sound j (j .box)) where
       nonempty (keep (isOn test (listing j)) (choices (j .box)))
       (mem-keep (isOn test (listing j)) (mem-choices (j .box) c .1 (f .inputs c (f .lowest))) (path-on test c m t (f .lowest)))
 
-  exits : (x : ℕ) (c : Choice) → isOn (exitsWith x) (listing j) c ≡ true → Exits j x c
-  exits x c e =
-      let (p, m, t, i) = on-path (exitsWith x) (listing j) c e in
-      let (n, l) = mem-place m in
-      let (k, low-is, high-is) = with-value x (resultOf p) t in
-      let end-is = kind-exit (p .end) k in
-      let r = listing-faithful j sound p m .runs c i in
-      record {
-        number = n;
-        path = p;
-        listed = l;
-        inside = i;
-        stops = r .stops (omega arith) ∙ ap (λ (d : End). some d) end-is;
-        value = omega (arith, r .exit end-is, low-is, high-is);
-      }
+  on-listed : (test : Result → Bool) (c : Choice) → (isOn test (listing j) c ≡ true) ↔ SomePath j (λ p. (test (resultOf p) ≡ true) × Inside c (p .box))
+  on-listed test c = (
+    λ e. let (p, m, t, i) = on-path test (listing j) c e in let (n, l) = mem-place m in (n, p, l, (t, i)),
+    λ h. let (n, p, l, (t, i)) = h in path-on test c (place-mem (listing j) n l) t i,
+  )
+
+  -- the value at every choice, and at the two that reach the ends of its interval
+  fixed-exit : (x n : ℕ) (p : Path) → IsPath j n p → (exitsWith x (resultOf p) ≡ true) ↔ AllExitWith j x p
+  unfolding exitsWith isFixed isExit
+  fixed-exit x n p l =
+      let f = listing-faithful j sound p (place-mem (listing j) n l) in (
+        λ e.
+            let (k, low-is, high-is) = with-value x (resultOf p) e in
+            let end-is = kind-exit (p .end) k in
+            (end-is, λ c i. omega (arith, f .runs c i .exit end-is, low-is, high-is)),
+        λ h.
+            let (end-is, all) = h in
+            let ((c, i, low-at), (d, o, high-at)) = f .exit end-is in
+            let low-is : exitOf p .low ≡ x = sym low-at ∙ all c i in
+            let high-is : exitOf p .high ≡ x = sym high-at ∙ all d o in
+            and-eq-true-iff _ _ .1
+            (and-eq-true-iff _ _ .1 (eq-eqb _ _ (ap kindNumber end-is), eq-eqb (exitOf p .low) (exitOf p .high) (low-is ∙ sym high-is)), eq-eqb (exitOf p .low) x low-is),
+      )
+
+  sizes-add : (test : Result → Bool) → choicesOn j test ≡ addAll (map (λ (p : Path). size (p .box)) (keep (λ (p : Path). test (resultOf p)) (listing j)))
+  sizes-add test = choices-sum j sound test ∙ parts-sizes test (listing j)
+
+  few-values : length (listing j) ≤ mostPaths → length xs ≤ mostPaths
+  few-values l = omega (arith, values-few (map partOf (listing j)), ap (λ (rs : List Result). length (exitValues rs)) (map-map (λ (p : Part). p .result) partOf (listing j)), length-map (listing j) partOf)
 
   choices-at : (i : ℕ) → i < length xs → getD (countsOf j .choices) i 0 ≡ choicesOn j (exitsWith (getD (countsOf j .values) i 0))
   unfolding countsOf countsBy
   choices-at i h =
       let f : ℕ → ℕ = λ x. choicesOn j (exitsWith x) in
       getD-padded (map f xs) (mostPaths - length (map f xs)) i ∙ getD-mapped f xs i h ∙ ap f (sym (getD-padded xs (mostPaths - length xs) i))
+
+  kinds-at : (k : ℕ) → k < kindPlaces → getD (countsOf j .kinds) k 0 ≡ choicesOn j (otherKind k)
+  unfolding countsOf countsBy
+  kinds-at k h = from-at (λ (i : ℕ). choicesOn j (otherKind i)) 0 kindPlaces 0 k h ∙ rw zero-add
+
+  no-other : (k : ℕ) → k ≤ 2 → choicesOn j (otherKind k) ≡ 0
+  unfolding choicesOn
+  no-other k h =
+      ap length
+      (keep-none (isOn (otherKind k) (listing j)) (choices (j .box))
+      (λ c m.
+      by-test (isOn (otherKind k) (listing j) c)
+      (λ e. let (p, _, t, _) = on-path (otherKind k) (listing j) c e in absurd (omega (arith, other-kind (p .end) k (unfold otherKind isExit in t))))
+      (λ e. e)))
 
   adds-up : addAll (countsOf j .choices) + (countsOf j .varying + addAll (countsOf j .kinds)) ≡ countsOf j .total
   adds-up =
@@ -139,16 +188,22 @@ module _ (j : Job) (sound : Sound j (j .box)) where
       kinds : (p : Part) → p ∈ map partOf (listing j) → p .result .kind < kindPlaces
       kinds p m = let (q, o, z) = Memᴰ·of-map partOf (listing j) m in subst (λ (x : Part). x .result .kind < kindPlaces) z (kind-below (q .end))
 
-  pub counts-sum : size (j .box) < 2 ^ 64 → Sums j (countsOf j)
+  pub counts-sum : size (j .box) < 2 ^ 64 → length (listing j) ≤ mostPaths → JobCounts j (countsOf j)
   unfolding countsOf countsBy
-  counts-sum small = let f : ℕ → ℕ = λ x. choicesOn j (exitsWith x) in record {
+  counts-sum small few = let f : ℕ → ℕ = λ x. choicesOn j (exitsWith x) in record {
+    on = on-listed;
+    fixed = fixed-exit;
+    sizes = sizes-add;
+    few = few-values few;
     rise = λ i h. rw (getD-padded xs (mostPaths - length xs) i, getD-padded xs (mostPaths - length xs) (suc i)) (values-rise results i h);
     values = λ x. rw (take-append-seam xs (replicate (mostPaths - length xs) 0)) (value-listed x);
     choices = choices-at;
     some-choice = λ i h.
         let (n, p, l, t) = value-listed (getD xs i 0) .0 (getD-in xs i h) in
         rw (choices-at i h, getD-padded xs (mostPaths - length xs) i) (some-choice (exitsWith (getD xs i 0)) n p l t);
-    exits = exits;
+    varying = refl;
+    kinds = kinds-at;
+    no-kind = λ k h. kinds-at k (omega arith) ∙ no-other k h;
     unused = λ i h. (
       getD-padded xs (mostPaths - length xs) i ∙ List·getD-eq-default xs 0 {n = i} h,
       getD-padded (map f xs) (mostPaths - length (map f xs)) i ∙ List·getD-eq-default (map f xs) 0 {n = i} (rw length-map h),
@@ -188,16 +243,21 @@ module _ (bytes : List ℕ) where
   unfolding jobRefusalOf countAsks
   job-passes h = all-yes (jobAsks bytes) jobQuestions .1 (λ q m. h (refusal.Job q) (Memᴰ·append-left _ (Memᴰ·map refusal.Job m)))
 
-  pub call-counts : Below (2 ^ 8) bytes → Counts bytes (counted bytes)
+  accepted-counts : Below (2 ^ 8) bytes → asked ≡ none → JobCounts (jobFrom bytes) (countedBy bytes none)
+  unfolding countedBy countAsks
+  accepted-counts b n =
+      let h = all-yes (countAsks bytes) countQuestions .0 n in
+      let own = map refusal.Job jobQuestions in
+      let small = ltb-true (size (jobFrom bytes .box)) (2 ^ 64) (h refusal.Size (Memᴰ·append-right own (here refl))) in
+      let few = leb-true (length (listing (jobFrom bytes))) mostPaths (h refusal.Paths (Memᴰ·append-right own (there (here refl)))) in
+      counts-sum (jobFrom bytes) (job-sound bytes (job-passes h) b) small few
+
+  pub call-counts : Below (2 ^ 8) bytes → CountsCall bytes (counted bytes)
   unfolding counted
   call-counts b = record {
     refused = λ q. Iff·trans (number-refused q) (first-no (countAsks bytes) countQuestions q);
     accepted = Iff·trans number-accepted (all-yes (countAsks bytes) countQuestions);
     turned-away = λ q e. rw (number-refused q .0 e) (unfold countedBy in refl);
-    sums = λ e.
-        let n = number-accepted .0 e in
-        let yes = all-yes (countAsks bytes) countQuestions .0 n in
-        let passes = job-passes yes in
-        let small = ltb-true (size (jobIn bytes .box)) (2 ^ 64) (unfold countAsks in yes refusal.Size (Memᴰ·append-right (map refusal.Job jobQuestions) (here refl))) in
-        rw n (unfold countedBy in counts-sum (jobIn bytes) (job-sound bytes passes b) small);
+    size-is = size-widths (jobFrom bytes .box);
+    counts = λ e. let n = number-accepted .0 e in rw n (accepted-counts b n);
   }

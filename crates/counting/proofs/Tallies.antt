@@ -13,7 +13,7 @@ use lib.ListN.{length, getD, length-map}
 use borrow.Author.Tests.{ltb-true, ltb-false, eqb-true, eqb-false, lt-ltb, eq-eqb, ne-eqb}
 use Rattle.boxes.specs.Boxes.{keep, _∈_}
 use Rattle.boxes.proofs.Lists.{by-test, map-cong, keep-map, keep-length}
-use Rattle.counting.specs.Counting.{Result, isFixed, exitsWith, placed, rising, exitValues}
+use Rattle.counting.specs.Counting.{Result, isFixed, exitsWith, inserted, rising, exitValues}
 use Rattle.counting.specs.Adding.{Part, sumOn, resultsOf, Entry, entry, sumOf, carried}
 
 -- numbers in rising order, each once
@@ -26,56 +26,56 @@ Rising (x ∷ l) = ((y : ℕ) → y ∈ l → x < y) × Rising l
 either : {C : Type 0} {x y : ℕ} {l : List ℕ} → (x ≡ y → C) → (x ∈ l → C) → x ∈ y ∷ l → C
 either f g m = ⊎-elim f g (List·Memᴰ·cases-cons m)
 
--- cases on the order of two numbers, as `placed` and `insert` ask for it
+-- cases on the order of two numbers, as `inserted` and `insert` ask for it
 by-order : {C : Type 0} (x y : ℕ) → (eqb x y ≡ true → C) → (eqb x y ≡ false → ltb x y ≡ true → C)
     → (eqb x y ≡ false → ltb x y ≡ false → C) → C
 by-order x y f g h = by-test (eqb x y) f (λ t. by-test (ltb x y) (g t) (h t))
 
-placed-mem : {z : ℕ} (x : ℕ) (l : List ℕ) → z ∈ placed x l → z ∈ x ∷ l
-unfolding placed
-placed-mem x [] m = m
-placed-mem {z} x (y ∷ l) m =
+inserted-mem : {z : ℕ} (x : ℕ) (l : List ℕ) → z ∈ inserted x l → z ∈ x ∷ l
+unfolding inserted
+inserted-mem x [] m = m
+inserted-mem {z} x (y ∷ l) m =
     by-order x y
     (λ t. there (rw t at m))
     (λ t u. rw (t, u) at m)
     (λ t u.
-    let n : z ∈ y ∷ placed x l = rw (t, u) at m in
-    either (λ e. there (here e)) (λ o. either here (λ k. there (there k)) (placed-mem x l o)) n)
+    let n : z ∈ y ∷ inserted x l = rw (t, u) at m in
+    either (λ e. there (here e)) (λ o. either here (λ k. there (there k)) (inserted-mem x l o)) n)
 
-mem-placed : {z : ℕ} (x : ℕ) (l : List ℕ) → z ∈ x ∷ l → z ∈ placed x l
-unfolding placed
-mem-placed x [] m = m
-mem-placed x (y ∷ l) m =
+mem-inserted : {z : ℕ} (x : ℕ) (l : List ℕ) → z ∈ x ∷ l → z ∈ inserted x l
+unfolding inserted
+mem-inserted x [] m = m
+mem-inserted x (y ∷ l) m =
     by-order x y
     (λ t. rw t (either (λ e. here (e ∙ eqb-true x y t)) (λ n. n) m))
     (λ t u. rw (t, u) m)
-    (λ t u. rw (t, u) (either (λ e. there (mem-placed x l (here e))) (λ n. either here (λ k. there (mem-placed x l (there k))) n) m))
+    (λ t u. rw (t, u) (either (λ e. there (mem-inserted x l (here e))) (λ n. either here (λ k. there (mem-inserted x l (there k))) n) m))
 
 pub rising-mem : (l : List ℕ) (x : ℕ) → (x ∈ rising l) ↔ (x ∈ l)
 unfolding rising
 rising-mem [] x = (λ m. m, λ m. m)
 rising-mem (y ∷ l) x =
     let (f, g) = rising-mem l x in (
-      λ m. either here (λ n. there (f n)) (placed-mem y (rising l) m),
-      λ m. mem-placed y (rising l) (either here (λ n. there (g n)) m),
+      λ m. either here (λ n. there (f n)) (inserted-mem y (rising l) m),
+      λ m. mem-inserted y (rising l) (either here (λ n. there (g n)) m),
     )
 
-placed-rises : (x : ℕ) (l : List ℕ) → Rising l → Rising (placed x l)
-unfolding placed
-placed-rises x [] r = (λ y m. absurd (List·Memᴰ·not-nil m), tt)
-placed-rises x (y ∷ l) (b, r) =
+inserted-rises : (x : ℕ) (l : List ℕ) → Rising l → Rising (inserted x l)
+unfolding inserted
+inserted-rises x [] r = (λ y m. absurd (List·Memᴰ·not-nil m), tt)
+inserted-rises x (y ∷ l) (b, r) =
     by-order x y
     (λ t. rw t (b, r))
     (λ t u. let h = ltb-true x y u in rw (t, u) (λ z m. either (λ e. omega arith) (λ n. omega (arith, b z n)) m, (b, r)))
     (λ t u.
     let ne = eqb-false x y t in
     let le = ltb-false x y u in
-    rw (t, u) (λ z m. either (λ e. omega arith) (b z) (placed-mem x l m), placed-rises x l r))
+    rw (t, u) (λ z m. either (λ e. omega arith) (b z) (inserted-mem x l m), inserted-rises x l r))
 
 rises : (l : List ℕ) → Rising (rising l)
 unfolding rising
 rises [] = tt
-rises (x ∷ l) = placed-rises x (rising l) (rises l)
+rises (x ∷ l) = inserted-rises x (rising l) (rises l)
 
 places-rise : (l : List ℕ) (i : ℕ) → Rising l → suc i < length l → getD l i 0 < getD l (suc i) 0
 places-rise [] i r h = absurd (omega arith)
@@ -106,8 +106,8 @@ unfoldable pub tally : List Entry → List Entry
 tally [] = []
 tally (p ∷ es) = insert p (tally es)
 
-insert-values : (p : Entry) (es : List Entry) → map valueOf (insert p es) ≡ placed (p .value) (map valueOf es)
-unfolding insert placed
+insert-values : (p : Entry) (es : List Entry) → map valueOf (insert p es) ≡ inserted (p .value) (map valueOf es)
+unfolding insert inserted
 insert-values p [] = refl
 insert-values p (e ∷ es) =
     by-order (p .value) (e .value)
@@ -118,7 +118,7 @@ insert-values p (e ∷ es) =
 values-are : (es : List Entry) → map valueOf (tally es) ≡ rising (map valueOf es)
 unfolding tally rising
 values-are [] = refl
-values-are (p ∷ es) = insert-values p (tally es) ∙ ap (placed (p .value)) (values-are es)
+values-are (p ∷ es) = insert-values p (tally es) ∙ ap (inserted (p .value)) (values-are es)
 
 pub tally-rises : (es : List Entry) → Rising (map valueOf (tally es))
 tally-rises es = subst Rising (sym (values-are es)) (rises (map valueOf es))

@@ -1,7 +1,7 @@
 -- Every result is an exit with a fixed value, one that varies, or another kind: so the counts add up to all the choices.
 -- Assumes nothing.
-use mathlib.Core.Path.{_≡_, refl, sym, ap, _∙_}
-use mathlib.Core.Bool.{Bool, true, false, cond, not, _&&_}
+use mathlib.Core.Path.{_≡_, refl, ap, _∙_}
+use mathlib.Core.Bool.{Bool, cond, not}
 use mathlib.Core.List.{List, [], _∷_, _++_, map, List·Memᴰ·head as here, List·Memᴰ·tail as there}
 use Prim.Native.Nat.{ℕ, zero, suc, _+_, _-_, _≤_, _<_}
 use native.Mathlib.Omega.{arith}
@@ -10,11 +10,10 @@ use borrow.Author.Tests.{eq-eqb, ne-eqb}
 use lib.Dec.{eqb}
 use lib.ListN.{length, replicate}
 use Rattle.boxes.specs.Boxes.{from, _∈_}
-use Rattle.boxes.proofs.Lists.{by-test, map-cong}
-use Rattle.counting.specs.Counting.{Result, isExit, isFixed, exitVaries, exitsWith, endsAs, exitValues, mostPaths, kindPlaces, countsBy}
+use Rattle.boxes.proofs.Lists.{by-test}
+use Rattle.counting.specs.Counting.{Result, isExit, isFixed, exitVaries, exitsWith, otherKind, exitValues, mostPaths, kindPlaces, countsBy}
 use Rattle.counting.specs.Adding.{Part, resultsOf, sumOn, sumAll, addedUp}
 use Rattle.counting.specs.Promised.{addAll}
-use Rattle.counting.specs.declared.Counted.{Counted}
 use Rattle.counting.proofs.Gathered.{fixed-sum}
 
 -- sums of lists of numbers
@@ -58,19 +57,19 @@ at-one k n a (suc m) l h =
 isOther : Result → Bool
 isOther r = not (isExit r)
 
-kind-adds : (r : Result) (n : ℕ) → r .kind < kindPlaces → addAll (map (λ (k : ℕ). cond (endsAs k r) n 0) (from 0 kindPlaces)) ≡ cond (isOther r) n 0
-unfolding endsAs isOther
+kind-adds : (r : Result) (n : ℕ) → r .kind < kindPlaces → addAll (map (λ (k : ℕ). cond (otherKind k r) n 0) (from 0 kindPlaces)) ≡ cond (isOther r) n 0
+unfolding otherKind isOther
 kind-adds r n h =
     by-test (isExit r)
     (λ e. rw e (zero-add-all (from 0 kindPlaces)))
     (λ e. rw e (at-one (r .kind) n 0 kindPlaces (omega arith) (omega arith)))
 
 kinds-add : (ps : List Part) → ((p : Part) → p ∈ ps → p .result .kind < kindPlaces)
-    → addAll (map (λ (k : ℕ). sumOn (endsAs k) ps) (from 0 kindPlaces)) ≡ sumOn isOther ps
+    → addAll (map (λ (k : ℕ). sumOn (otherKind k) ps) (from 0 kindPlaces)) ≡ sumOn isOther ps
 unfolding sumOn
 kinds-add [] h = zero-add-all (from 0 kindPlaces)
 kinds-add (p ∷ ps) h =
-    both-add (λ (k : ℕ). cond (endsAs k (p .result)) (p .choices) 0) (λ (k : ℕ). sumOn (endsAs k) ps) (from 0 kindPlaces)
+    both-add (λ (k : ℕ). cond (otherKind k (p .result)) (p .choices) 0) (λ (k : ℕ). sumOn (otherKind k) ps) (from 0 kindPlaces)
     ∙ omega (arith, kind-adds (p .result) (p .choices) (h p (here refl)), kinds-add ps (λ q m. h q (there m)))
 
 -- one of the three

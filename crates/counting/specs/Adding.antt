@@ -6,7 +6,7 @@ use mathlib.Core.List.{List, [], _∷_, _++_, map}
 use mathlib.Core.Option.{none}
 use denote.Ref.{now}
 use lib.Dec.{ltb, eqb}
-use lib.ListN.{length, take, drop}
+use lib.ListN.{length, take, drop, replicate}
 use Rattle.boxes.specs.Boxes.{Box, _⋯_, Proper, from, size}
 use Rattle.riscu.specs.Lent.{LentList}
 use Rattle.listing.specs.Group.{Job}
@@ -15,11 +15,11 @@ use Rattle.blocks.specs.Block.{wordAt}
 use Rattle.blocks.specs.Layout as layout
 use Rattle.blocks.specs.Record.{mostInputs, recordBytes}
 use Rattle.blocks.specs.Report.{recordsIn, recordAt}
-use Rattle.calls.specs.Call.{callOf, refusalOf, jobOf}
+use Rattle.calls.specs.Call.{Call, callOf, Below, Typed, refusalOf, jobOf}
 use Rattle.jobs.specs.declared.Counts.{Counts}
 use Rattle.serving.specs.Served.{tableWords}
 use Rattle.counting.specs.Counting.{Result, resultOf, mostPaths, kindPlaces, countsBy, countsOf}
-use Rattle.counting.specs.Count.{sizeFits, pathsFit, turnedAway}
+use Rattle.counting.specs.Count.{sizeFits, pathsFit, countRefused}
 use Rattle.counting.specs.declared.Counted.{Counted}
 use Rattle.counting.specs.declared.CountRefusal.the-variants as refusal
 use Rattle.counting.specs.declared.sizes.Size.{Size}
@@ -30,7 +30,7 @@ abbrev pub sized : ℕ → Size
 sized n = cond (ltb n (2 ^ 64)) (Fits n) Over
 
 -- a box with a choice, and with fewer than 2^64
-pub record Countable (b : Box) : Type 0 where
+pub record FitsWord (b : Box) : Type 0 where
   pub proper : Proper b
   pub fits : size b < 2 ^ 64
 
@@ -42,7 +42,7 @@ pub record Part : Type 0 where
 abbrev pub partOf : Path → Part
 partOf p = record { result = resultOf p; choices = size (p .box) }
 
--- the same from a record of n inputs
+-- the box in a record of n inputs, and what the record adds
 unfoldable pub boxAt : ℕ → List ℕ → Box
 boxAt n bytes = map (λ (i : ℕ). wordAt bytes (layout.lows + i) ⋯ wordAt bytes (layout.highs + i)) (from 0 n)
 
@@ -116,29 +116,35 @@ pub record Room (vs cs : List ℕ) (used : ℕ) (p : Entry) : Type 0 where
   pub even : length cs ≡ length vs
   pub fits : p .count + sumOf (take used (joined vs cs)) < 2 ^ 64
 
-pub record Along (vs cs vs' cs' : List ℕ) (used r : ℕ) (p : Entry) : Type 0 where
+pub record AddedTo (vs cs vs' cs' : List ℕ) (used r : ℕ) (p : Entry) : Type 0 where
   pub lists : joined vs' cs' ≡ laid (carried p (take used (joined vs cs))) (joined vs cs)
   pub count : r ≡ length (carried p (take used (joined vs cs)))
 
 abbrev pub Added : LentList → LentList → ℕ → ℕ → Entry → Type 0
-Added vs cs used r p = Along (now (vs .entry)) (now (cs .entry)) (now (vs .exit)) (now (cs .exit)) used r p
+Added vs cs used r p = AddedTo (now (vs .entry)) (now (cs .entry)) (now (vs .exit)) (now (cs .exit)) used r p
 
 -- A job that was read.
 
--- what is left of the questions: the counts are those of the lists, and a call from path 0 with a report is accepted
-pub record Passed (code intervals memory : List ℕ) (k : Counts) : Type 0 where
+-- its call from path 0 on, with a report of as many paths as can be counted
+abbrev pub startedCall : List ℕ → List ℕ → Counts → Call
+startedCall code intervals k =
+    let report = replicate {A = ℕ} (mostPaths * recordBytes (k .inputs)) 0 in
+    callOf (take (k .code) code) (take (2 * k .inputs) intervals) (k .limit) report 0
+
+-- what its questions leave: the counts fit the lists, and that call is accepted; every number fits its type
+pub record Startable (code intervals memory : List ℕ) (k : Counts) : Type 0 where
   pub code-words : k .code ≤ length code
   pub interval-words : 2 * k .inputs ≤ length intervals
-  pub accepted : (report : List ℕ) → length report ≡ recordBytes (k .inputs) * mostPaths
-      → refusalOf memory tableWords (callOf (take (k .code) code) (take (2 * k .inputs) intervals) (k .limit) report 0) ≡ none
+  pub memory-below : Below (2 ^ 64) memory
+  pub typed : Typed (startedCall code intervals k)
+  pub accepted : refusalOf memory tableWords (startedCall code intervals k) ≡ none
 
-abbrev pub jobRead : List ℕ → List ℕ → List ℕ → Counts → Job
-jobRead code intervals memory k =
-    jobOf memory tableWords (callOf (take (k .code) code) (take (2 * k .inputs) intervals) (k .limit) [] 0)
+abbrev pub startedJob : List ℕ → List ℕ → List ℕ → Counts → Job
+startedJob code intervals memory k = jobOf memory tableWords (startedCall code intervals k)
 
 abbrev pub jobLent : LentList → LentList → LentList → Counts → Job
-jobLent code intervals memory k = jobRead (now (code .entry)) (now (intervals .entry)) (now (memory .entry)) k
+jobLent code intervals memory k = startedJob (now (code .entry)) (now (intervals .entry)) (now (memory .entry)) k
 
 -- questions 15 and 16, and the counts
 abbrev pub countedJob : Job → Counted
-countedJob j = cond (sizeFits j) (cond (pathsFit j) (countsOf j) (turnedAway refusal.Paths)) (turnedAway refusal.Size)
+countedJob j = cond (sizeFits j) (cond (pathsFit j) (countsOf j) (countRefused refusal.Paths)) (countRefused refusal.Size)

@@ -2,7 +2,7 @@
 --     Counting    how many choices lead to each end, counted one by one, and the answer's places
 --     Count       the questions, and the call on a job in blocks
 --     Promised    what a call answers, as laws
---     Adding      what the code's contracts use beside these
+--     Adding      not to be believed: what the contracts inside the crate name
 pub mod Counting
 pub mod Count
 pub mod Promised

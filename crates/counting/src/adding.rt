@@ -56,18 +56,16 @@ pub(crate) fn add_up(report: &[u8], inputs: usize, count: usize, total: u64) -> 
     let mut k = count;
     while 0 < k {
         k -= 1;
-        let n = path_size(report, inputs, k);
+        let size = path_size(report, inputs, k);
         let kind = record_word(report, inputs, k, KIND) as usize;
         let low = record_word(report, inputs, k, EXIT_LOW);
         let high = record_word(report, inputs, k, EXIT_HIGH);
         if kind != EXIT {
-            kinds[kind] = kinds[kind] + n;
+            kinds[kind] += size;
+        } else if low == high {
+            used = add_value(&mut values, &mut choices, used, low, size);
         } else {
-            if low == high {
-                used = add_value(&mut values, &mut choices, used, low, n);
-            } else {
-                varying = varying + n;
-            }
+            varying += size;
         }
     }
     Counted {

@@ -18,11 +18,11 @@ use riscu::plain::Machine;
 use serving::explore_read;
 ghost use mathlib.Core.Path.{_≡_};
 ghost use Rattle.counting.specs.Count.{counted};
-ghost use Rattle.counting.specs.Adding.{Passed, countedJob, jobLent};
+ghost use Rattle.counting.specs.Adding.{Startable, countedJob, jobLent};
 
 // Counts the choices of a job that was read, from path 0 on.
 fn count_read(code: &[u32], intervals: &[u64], memory: &[u64], counts: Counts) -> Counted
-    requires { ⌜ Passed (now code) (now intervals) (now memory) counts ⌝ }
+    requires { ⌜ Startable (now code) (now intervals) (now memory) counts ⌝ }
     ensures { λ r. ⌜ r ≡ countedJob (jobLent code intervals memory counts) ⌝ }
 {
     let m = 2 * counts.inputs as usize;

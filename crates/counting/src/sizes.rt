@@ -7,7 +7,7 @@ ghost use Rattle.boxes.specs.Boxes.{Proper, size};
 ghost use Rattle.blocks.specs.Record.{mostInputs};
 ghost use Rattle.blocks.specs.Report.{recordsIn, recordAt};
 ghost use Rattle.calls.specs.Call.{boxOf};
-ghost use Rattle.counting.specs.Adding.{sized, boxAt, Countable};
+ghost use Rattle.counting.specs.Adding.{sized, boxAt, FitsWord};
 
 // MAX: the greatest word.
 const MAX: u64 = 18446744073709551615;
@@ -38,7 +38,7 @@ pub(crate) fn box_size(intervals: &[u64]) -> Size
 
 // The size of the box of record k.
 pub(crate) fn path_size(report: &[u8], inputs: usize, k: usize) -> u64
-    requires { ⌜ (k < recordsIn inputs (now report)) × (inputs ≤ mostInputs) × Countable (boxAt inputs (recordAt inputs (now report) k)) ⌝ }
+    requires { ⌜ (k < recordsIn inputs (now report)) × (inputs ≤ mostInputs) × FitsWord (boxAt inputs (recordAt inputs (now report) k)) ⌝ }
     ensures { λ r. ⌜ r ≡ size (boxAt inputs (recordAt inputs (now (report .entry)) k)) ⌝ }
 {
     let mut n: u64 = 1;

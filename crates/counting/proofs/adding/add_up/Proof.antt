@@ -1,21 +1,15 @@
 -- `counting::adding::add_up` meets its contract: the records from the last to the first, each added where it belongs.
 -- Assumes nothing.
-use mathlib.Core.Path.{_≡_, refl, sym, subst}
-use mathlib.Core.List.{List}
+use mathlib.Core.Path.{_≡_, subst}
 use Prim.Native.Nat.{ℕ, _-_, _≤_}
 use native.Mathlib.Omega.{arith}
 use denote.Ref.{now}
 use borrow.Author.Needs.{needs}
 use lib.ListN.{drop}
-use Rattle.counting.specs.Adding.{Part, partsIn}
+use Rattle.counting.specs.Adding.{partsIn}
 use Rattle.counting.proofs.Held.{Held, none-held, kind-fits, varying-fits, value-room, other-held, varying-held, fixed-held, all-left, next, next-fits, next-few, kind-below, size-countable, all-held}
 use Rattle.counting.proofs.adding.add_up.Statement.{statement}
 use Rattle.counting.proofs.adding.add_up.Tie as tie
-use Rattle.counting.proofs.adding.add_up.Reads as reads
-use Rattle.counting.proofs.adding.add_up.Lts as lts
-use Rattle.blocks.proofs.report.record_word.Reads as record-word-reads
-use Rattle.counting.proofs.adding.add_value.Reads as add-value-reads
-use Rattle.counting.proofs.sizes.path_size.Reads as path-size-reads
 
 abbrev Inv-loop : tie.InvT-loop
 Inv-loop report inputs count total values₀ choices₀ kinds₀ used₀ varying₀ k₀ values choices kinds used varying k =
@@ -25,9 +19,7 @@ abbrev μ-loop : tie.MeasureT-loop
 μ-loop report inputs count total values₀ choices₀ kinds₀ used₀ varying₀ k₀ values choices kinds used varying k = k
 
 loop-holds : tie.Need-loop-holds Inv-loop μ-loop
-loop-holds c =
-    let a = c .before .args in
-    (omega arith, none-held (all-left (now (a .report)) (a .inputs) (a .count) (a .total) (c .before .pre)))
+loop-holds c = (omega arith, none-held (all-left (c .before .pre)))
 
 sub-k : tie.Need-sub-k Inv-loop μ-loop
 sub-k c = omega arith
@@ -35,9 +27,8 @@ sub-k c = omega arith
 path-size-requires : tie.Need-path-size-requires Inv-loop μ-loop
 path-size-requires c κs =
     let entry = c .before .before .before in
-    let a = entry .args in
     let l = c .before .loop in
-    (omega (arith, entry .pre .records), entry .pre .inputs, size-countable (now (a .report)) (a .inputs) (a .count) (a .total) (entry .pre) (l .k) (omega arith) (l .inv .0))
+    (omega (arith, entry .pre .records), entry .pre .inputs, size-countable (entry .pre) (l .k) (omega arith) (l .inv .0))
 
 record-word-requires : tie.Need-record-word-requires Inv-loop μ-loop
 record-word-requires c κs = (omega (arith, c .before .before .before .before .pre .records), omega arith)
@@ -49,39 +40,19 @@ record-word-requires-3 : tie.Need-record-word-requires-3 Inv-loop μ-loop
 record-word-requires-3 c κs = (omega (arith, c .before .before .before .before .before .before .pre .records), omega arith)
 
 mul-kinds : tie.Need-mul-kinds Inv-loop μ-loop
-mul-kinds c =
-    let entry = c .before .before .before .before .before .before .before .before in
-    let a = entry .args in
-    let l = c .before .before .before .before .before .before .loop in
-    omega (arith, kind-below (now (a .report)) (a .inputs) (a .count) (a .total) (entry .pre) (omega arith) (l .inv .0) (c .before .before .before .record-word .ensures))
+mul-kinds c = omega (arith, kind-below (c .before .before .before .before .before .before .before .before .pre) (omega arith) (c .before .before .before .before .before .before .loop .inv .0) (c .before .before .before .record-word .ensures))
 
 array-read-kinds : tie.Need-array-read-kinds Inv-loop μ-loop
-array-read-kinds c =
-    let entry = c .before .before .before .before .before .before .before .before in
-    let a = entry .args in
-    let l = c .before .before .before .before .before .before .loop in
-    omega (arith, kind-below (now (a .report)) (a .inputs) (a .count) (a .total) (entry .pre) (omega arith) (l .inv .0) (c .before .before .before .record-word .ensures))
+array-read-kinds c = omega (arith, kind-below (c .before .before .before .before .before .before .before .before .pre) (omega arith) (c .before .before .before .before .before .before .loop .inv .0) (c .before .before .before .record-word .ensures))
 
 add-kinds : tie.Need-add-kinds Inv-loop μ-loop
 add-kinds c =
     let entry = c .before .before .before .before .before .before .before .before in
-    let a = entry .args in
     let l = c .before .before .before .before .before .before .loop in
-    record { fits = kind-fits (l .inv .1) _ (next-fits (now (a .report)) (a .inputs) (a .count) (a .total) (entry .pre) (omega arith) (l .inv .0) (c .before .before .before .before .path-size .ensures) (c .before .before .before .record-word .ensures) (c .before .before .record-word2 .ensures) (c .before .record-word3 .ensures)) _ (kind-below (now (a .report)) (a .inputs) (a .count) (a .total) (entry .pre) (omega arith) (l .inv .0) (c .before .before .before .record-word .ensures)) }
-
-mul-kinds-2 : tie.Need-mul-kinds-2 Inv-loop μ-loop
-mul-kinds-2 c =
-    let entry = c .before .before .before .before .before .before .before .before in
-    let a = entry .args in
-    let l = c .before .before .before .before .before .before .loop in
-    omega (arith, kind-below (now (a .report)) (a .inputs) (a .count) (a .total) (entry .pre) (omega arith) (l .inv .0) (c .before .before .before .record-word .ensures))
+    record { fits = kind-fits (l .inv .1) _ (next-fits (entry .pre) (omega arith) (l .inv .0) (c .before .before .before .before .path-size .ensures) (c .before .before .before .record-word .ensures) (c .before .before .record-word2 .ensures) (c .before .record-word3 .ensures)) _ (kind-below (entry .pre) (omega arith) (l .inv .0) (c .before .before .before .record-word .ensures)) }
 
 array-write-kinds : tie.Need-array-write-kinds Inv-loop μ-loop
-array-write-kinds c =
-    let entry = c .before .before .before .before .before .before .before .before in
-    let a = entry .args in
-    let l = c .before .before .before .before .before .before .loop in
-    omega (arith, kind-below (now (a .report)) (a .inputs) (a .count) (a .total) (entry .pre) (omega arith) (l .inv .0) (c .before .before .before .record-word .ensures))
+array-write-kinds c = omega (arith, kind-below (c .before .before .before .before .before .before .before .before .pre) (omega arith) (c .before .before .before .before .before .before .loop .inv .0) (c .before .before .before .record-word .ensures))
 
 loop-less : tie.Need-loop-less Inv-loop μ-loop
 loop-less c = omega arith
@@ -89,9 +60,8 @@ loop-less c = omega arith
 loop-again : tie.Need-loop-again Inv-loop μ-loop
 loop-again c =
     let entry = c .before .before .before .before .before .before .before .before in
-    let a = entry .args in
     let l = c .before .before .before .before .before .before .loop in
-    (omega arith, other-held (l .inv .1) _ _ _ _ (next (now (a .report)) (a .inputs) (a .count) (a .total) (entry .pre) (omega arith) (l .inv .0) (c .before .before .before .before .path-size .ensures) (c .before .before .before .record-word .ensures) (c .before .before .record-word2 .ensures) (c .before .record-word3 .ensures)) (c .if1 .taken) (kind-below (now (a .report)) (a .inputs) (a .count) (a .total) (entry .pre) (omega arith) (l .inv .0) (c .before .before .before .record-word .ensures)))
+    (omega arith, other-held (l .inv .1) _ _ _ _ (next (entry .pre) (omega arith) (l .inv .0) (c .before .before .before .before .path-size .ensures) (c .before .before .before .record-word .ensures) (c .before .before .record-word2 .ensures) (c .before .record-word3 .ensures)) (c .if1 .taken) (kind-below (entry .pre) (omega arith) (l .inv .0) (c .before .before .before .record-word .ensures)))
 
 slice-aggregate-add-value : tie.Need-slice-aggregate-add-value Inv-loop μ-loop
 slice-aggregate-add-value c = search needs
@@ -102,9 +72,8 @@ slice-aggregate-add-value-2 c = search needs
 add-value-requires : tie.Need-add-value-requires Inv-loop μ-loop
 add-value-requires c κs =
     let entry = c .before .before .before .before .before .before .before .before .before .before .before in
-    let a = entry .args in
     let l = c .before .before .before .before .before .before .before .before .before .loop in
-    value-room (l .inv .1) _ (next-fits (now (a .report)) (a .inputs) (a .count) (a .total) (entry .pre) (omega arith) (l .inv .0) (c .before .before .before .before .before .before .before .path-size .ensures) (c .before .before .before .before .before .before .record-word .ensures) (c .before .before .before .before .before .record-word2 .ensures) (c .before .before .before .before .record-word3 .ensures)) _ (next-few (now (a .report)) (a .inputs) (a .count) (a .total) (entry .pre) (omega arith) (l .inv .0) (c .before .before .before .before .before .before .before .path-size .ensures) (c .before .before .before .before .before .before .record-word .ensures) (c .before .before .before .before .before .record-word2 .ensures) (c .before .before .before .before .record-word3 .ensures))
+    value-room (l .inv .1) _ (next-fits (entry .pre) (omega arith) (l .inv .0) (c .before .before .before .before .before .before .before .path-size .ensures) (c .before .before .before .before .before .before .record-word .ensures) (c .before .before .before .before .before .record-word2 .ensures) (c .before .before .before .before .record-word3 .ensures)) _ (next-few (entry .pre) (l .k) (omega arith) (l .inv .0))
 
 loop-less-2 : tie.Need-loop-less-2 Inv-loop μ-loop
 loop-less-2 c = omega arith
@@ -112,16 +81,14 @@ loop-less-2 c = omega arith
 loop-again-2 : tie.Need-loop-again-2 Inv-loop μ-loop
 loop-again-2 c =
     let entry = c .before .before .before .before .before .before .before .before .before .before .before .before .before .before in
-    let a = entry .args in
     let l = c .before .before .before .before .before .before .before .before .before .before .before .before .loop in
-    (omega arith, fixed-held (l .inv .1) _ _ _ _ (next (now (a .report)) (a .inputs) (a .count) (a .total) (entry .pre) (omega arith) (l .inv .0) (c .before .before .before .before .before .before .before .before .before .before .path-size .ensures) (c .before .before .before .before .before .before .before .before .before .record-word .ensures) (c .before .before .before .before .before .before .before .before .record-word2 .ensures) (c .before .before .before .before .before .before .before .record-word3 .ensures)) (c .before .before .before .before .before .before .if1 .left) (c .before .before .before .before .before .if2 .taken) (c .before .before .add-value .kept .0) (c .before .before .add-value .kept .1 .0) (c .before .before .add-value .ensures))
+    (omega arith, fixed-held (l .inv .1) _ _ _ _ (next (entry .pre) (omega arith) (l .inv .0) (c .before .before .before .before .before .before .before .before .before .before .path-size .ensures) (c .before .before .before .before .before .before .before .before .before .record-word .ensures) (c .before .before .before .before .before .before .before .before .record-word2 .ensures) (c .before .before .before .before .before .before .before .record-word3 .ensures)) (c .before .before .before .before .before .before .if1 .left) (omega (arith, c .before .before .before .before .before .if2 .taken)) (c .before .before .add-value .kept .0) (c .before .before .add-value .kept .1 .0) (c .before .before .add-value .ensures))
 
 add-varying : tie.Need-add-varying Inv-loop μ-loop
 add-varying c =
     let entry = c .before .before .before .before .before .before .before .before .before in
-    let a = entry .args in
     let l = c .before .before .before .before .before .before .before .loop in
-    record { fits = varying-fits (l .inv .1) _ (next-fits (now (a .report)) (a .inputs) (a .count) (a .total) (entry .pre) (omega arith) (l .inv .0) (c .before .before .before .before .before .path-size .ensures) (c .before .before .before .before .record-word .ensures) (c .before .before .before .record-word2 .ensures) (c .before .before .record-word3 .ensures)) }
+    record { fits = varying-fits (l .inv .1) _ (next-fits (entry .pre) (omega arith) (l .inv .0) (c .before .before .before .before .before .path-size .ensures) (c .before .before .before .before .record-word .ensures) (c .before .before .before .record-word2 .ensures) (c .before .before .record-word3 .ensures)) }
 
 loop-less-3 : tie.Need-loop-less-3 Inv-loop μ-loop
 loop-less-3 c = omega arith
@@ -129,9 +96,8 @@ loop-less-3 c = omega arith
 loop-again-3 : tie.Need-loop-again-3 Inv-loop μ-loop
 loop-again-3 c =
     let entry = c .before .before .before .before .before .before .before .before .before in
-    let a = entry .args in
     let l = c .before .before .before .before .before .before .before .loop in
-    (omega arith, varying-held (l .inv .1) _ _ _ _ (next (now (a .report)) (a .inputs) (a .count) (a .total) (entry .pre) (omega arith) (l .inv .0) (c .before .before .before .before .before .path-size .ensures) (c .before .before .before .before .record-word .ensures) (c .before .before .before .record-word2 .ensures) (c .before .before .record-word3 .ensures)) (c .before .if1 .left) (c .if2 .left))
+    (omega arith, varying-held (l .inv .1) _ _ _ _ (next (entry .pre) (omega arith) (l .inv .0) (c .before .before .before .before .before .path-size .ensures) (c .before .before .before .before .record-word .ensures) (c .before .before .before .record-word2 .ensures) (c .before .before .record-word3 .ensures)) (c .before .if1 .left) (omega (arith, c .if2 .left)))
 
 returns : tie.Need-returns Inv-loop μ-loop
 returns c =
@@ -139,7 +105,7 @@ returns c =
     let a = entry .args in
     let l = c .before .loop in
     let z : l .k ≡ 0 = omega arith in
-    all-held (now (a .report)) (a .inputs) (a .count) (a .total) (entry .pre)
+    all-held (entry .pre)
     (subst (λ (i : ℕ). Held (drop i (partsIn (a .inputs) (now (a .report)) (a .count))) (l .values) (l .choices) (l .kinds) (l .used) (l .varying)) z (l .inv .1))
 
 pub add-up-spec : {M : Type 1} → statement M
@@ -157,7 +123,6 @@ add-up-spec =
     mul-kinds
     array-read-kinds
     add-kinds
-    mul-kinds-2
     array-write-kinds
     loop-less
     loop-again

@@ -9,14 +9,10 @@ use Rattle.blocks.specs.Record.{mostInputs}
 use Rattle.serving.proofs.JobPassed.{read-refused, read-passed, code-length, intervals-length, memory-length}
 use Rattle.counting.specs.Adding.{countedJob}
 use Rattle.counting.proofs.Read.{job-refused, job-counted, job-is, job-passed}
+use native.Mathlib.Omega.{arith}
 use borrow.Author.Needs.{needs}
 use Rattle.counting.proofs.counting.count.Statement.{statement}
 use Rattle.counting.proofs.counting.count.Tie as tie
-use Rattle.counting.proofs.counting.count.Reads as reads
-use Rattle.counting.proofs.counting.count.Lts as lts
-use Rattle.counting.proofs.counting.count_read.Reads as count-read-reads
-use Rattle.counting.proofs.turned_away.Reads as turned-away-reads
-use Rattle.jobs.proofs.reading.read_job.Reads as read-job-reads
 
 code-size : length (replicate {A = ℕ} codeWords 0) ≡ codeWords
 code-size = length-replicate {A = ℕ} codeWords 0
@@ -46,7 +42,7 @@ slice-aggregate-count-read-3 : tie.Need-slice-aggregate-count-read-3
 slice-aggregate-count-read-3 c = memory-length _ _ _ _ _ _ _ (read-passed (now (c .before .before .before .before .before .before .before .before .before .before .before .args .job)) _ _ _ _ _ _ (rw (c .before .before .before .before .answer2 .given .1) at (c .before .before .before .before .before .before .read-job .ensures))) code-size intervals-size
 
 count-read-requires : tie.Need-count-read-requires
-count-read-requires c κs = job-passed _ _ _ _ _ _ _ (read-passed (now (c .before .before .before .before .before .before .before .before .before .before .before .args .job)) _ _ _ _ _ _ (rw (c .before .before .before .before .answer2 .given .1) at (c .before .before .before .before .before .before .read-job .ensures))) code-size intervals-size
+count-read-requires c κs = job-passed _ _ _ _ _ _ _ (read-passed (now (c .before .before .before .before .before .before .before .before .before .before .before .args .job)) _ _ _ _ _ _ (rw (c .before .before .before .before .answer2 .given .1) at (c .before .before .before .before .before .before .read-job .ensures))) code-size intervals-size (λ i. omega (arith, c .before .before .before .before .before .before .before .before .before .before .shared-slice-known .given i))
 
 returns : tie.Need-returns
 returns c = c .turned-away .ensures ∙ job-refused _ (read-refused (now (c .before .before .before .before .before .before .before .before .before .args .job)) _ _ _ _ _ _ (rw (c .before .before .answer .given .1) at (c .before .before .before .before .read-job .ensures)))

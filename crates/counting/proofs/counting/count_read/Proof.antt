@@ -1,18 +1,11 @@
 -- `counting::counting::count_read` meets its contract: the questions 15 and 16, and then the sums of the report.
 -- Assumes nothing.
-use mathlib.Core.Path.{_≡_, sym, _∙_}
-use native.Mathlib.Omega.{arith}
+use mathlib.Core.Path.{sym, _∙_}
 use Rattle.serving.proofs.JobPassed.{front-length}
 use Rattle.counting.proofs.Started.{start-proper, start-over, start-refused, start-many, start-adds, start-counted}
 use borrow.Author.Needs.{needs}
 use Rattle.counting.proofs.counting.count_read.Statement.{statement}
 use Rattle.counting.proofs.counting.count_read.Tie as tie
-use Rattle.counting.proofs.counting.count_read.Reads as reads
-use Rattle.counting.proofs.counting.count_read.Lts as lts
-use Rattle.counting.proofs.adding.add_up.Reads as add-up-reads
-use Rattle.counting.proofs.sizes.box_size.Reads as box-size-reads
-use Rattle.counting.proofs.turned_away.Reads as turned-away-reads
-use Rattle.serving.proofs.explore_read.Reads as explore-read-reads
 
 mul-m : tie.Need-mul-m
 mul-m c = search needs
@@ -21,7 +14,7 @@ slice-aggregate-box-size : tie.Need-slice-aggregate-box-size
 slice-aggregate-box-size c = front-length _ _ (c .before .before .before .before .pre .interval-words)
 
 box-size-requires : tie.Need-box-size-requires
-box-size-requires c κs = start-proper (c .before .before .before .before .pre) (λ i. omega (arith, c .before .before .before .shared-slice-known .given i)) (λ i. omega (arith, c .before .before .shared-slice-known2 .given i)) (λ i. omega (arith, c .before .shared-slice-known3 .given i))
+box-size-requires c κs = start-proper (c .before .before .before .before .pre)
 
 enum-known-s : tie.Need-enum-known-s
 enum-known-s c = search needs
@@ -33,7 +26,7 @@ turned-away-requires : tie.Need-turned-away-requires
 turned-away-requires c κs = search needs
 
 returns : tie.Need-returns
-returns c = c .turned-away .ensures ∙ start-over (c .before .before .before .before .before .before .before .before .pre) (λ i. omega (arith, c .before .before .before .before .before .before .before .shared-slice-known .given i)) (λ i. omega (arith, c .before .before .before .before .before .before .shared-slice-known2 .given i)) (λ i. omega (arith, c .before .before .before .before .before .shared-slice-known3 .given i)) (sym (c .before .before .before .box-size .ensures) ∙ c .before .enum-told .given .1)
+returns c = c .turned-away .ensures ∙ start-over (c .before .before .before .before .before .before .before .before .pre) (sym (c .before .before .before .box-size .ensures) ∙ c .before .enum-told .given .1)
 
 slice-aggregate-explore-read : tie.Need-slice-aggregate-explore-read
 slice-aggregate-explore-read c = search needs
@@ -54,19 +47,19 @@ turned-away-requires-3 : tie.Need-turned-away-requires-3
 turned-away-requires-3 c κs = search needs
 
 returns-2 : tie.Need-returns-2
-returns-2 c = c .turned-away3 .ensures ∙ start-many (c .before .before .before .before .before .before .before .before .before .before .before .before .before .before .before .before .pre) (λ i. omega (arith, c .before .before .before .before .before .before .before .before .before .before .before .before .before .before .before .shared-slice-known .given i)) (λ i. omega (arith, c .before .before .before .before .before .before .before .before .before .before .before .before .before .before .shared-slice-known2 .given i)) (λ i. omega (arith, c .before .before .before .before .before .before .before .before .before .before .before .before .before .shared-slice-known3 .given i)) (sym (c .before .before .before .before .before .before .before .before .before .before .before .box-size .ensures) ∙ c .before .before .before .before .before .before .before .before .before .s .given .1) (rw (c .before .before .before .a2 .given .1) at (c .before .before .before .before .before .before .explore-read .ensures)) (c .before .if1 .taken)
+returns-2 c = c .turned-away3 .ensures ∙ start-many (c .before .before .before .before .before .before .before .before .before .before .before .before .before .before .before .before .pre) (sym (c .before .before .before .before .before .before .before .before .before .before .before .box-size .ensures) ∙ c .before .before .before .before .before .before .before .before .before .s .given .1) (rw (c .before .before .before .a2 .given .1) at (c .before .before .before .before .before .before .explore-read .ensures)) (c .before .if1 .taken)
 
 slice-aggregate-add-up : tie.Need-slice-aggregate-add-up
 slice-aggregate-add-up c = search needs
 
 add-up-requires : tie.Need-add-up-requires
-add-up-requires c κs = start-adds (c .before .before .before .before .before .before .before .before .before .before .before .before .before .before .before .before .pre) (λ i. omega (arith, c .before .before .before .before .before .before .before .before .before .before .before .before .before .before .before .shared-slice-known .given i)) (λ i. omega (arith, c .before .before .before .before .before .before .before .before .before .before .before .before .before .before .shared-slice-known2 .given i)) (λ i. omega (arith, c .before .before .before .before .before .before .before .before .before .before .before .before .before .shared-slice-known3 .given i)) (sym (c .before .before .before .before .before .before .before .before .before .before .before .box-size .ensures) ∙ c .before .before .before .before .before .before .before .before .before .s .given .1) (rw (c .before .before .before .a2 .given .1) at (c .before .before .before .before .before .before .explore-read .ensures)) (c .before .if1 .left)
+add-up-requires c κs = start-adds (c .before .before .before .before .before .before .before .before .before .before .before .before .before .before .before .before .pre) (sym (c .before .before .before .before .before .before .before .before .before .before .before .box-size .ensures) ∙ c .before .before .before .before .before .before .before .before .before .s .given .1) (rw (c .before .before .before .a2 .given .1) at (c .before .before .before .before .before .before .explore-read .ensures)) (c .before .if1 .left)
 
 returns-3 : tie.Need-returns-3
-returns-3 c = absurd (start-refused (c .before .before .before .before .before .before .before .before .before .before .before .before .before .before .before .pre) (λ i. omega (arith, c .before .before .before .before .before .before .before .before .before .before .before .before .before .before .shared-slice-known .given i)) (λ i. omega (arith, c .before .before .before .before .before .before .before .before .before .before .before .before .before .shared-slice-known2 .given i)) (λ i. omega (arith, c .before .before .before .before .before .before .before .before .before .before .before .before .shared-slice-known3 .given i)) (rw (c .before .before .a .given .1) at (c .before .before .before .before .before .explore-read .ensures)))
+returns-3 c = absurd (start-refused (c .before .before .before .before .before .before .before .before .before .before .before .before .before .before .before .pre) (rw (c .before .before .a .given .1) at (c .before .before .before .before .before .explore-read .ensures)))
 
 returns-4 : tie.Need-returns-4
-returns-4 c = c .add-up .ensures ∙ start-counted (c .before .before .before .before .before .before .before .before .before .before .before .before .before .before .before .before .before .pre) (λ i. omega (arith, c .before .before .before .before .before .before .before .before .before .before .before .before .before .before .before .before .shared-slice-known .given i)) (λ i. omega (arith, c .before .before .before .before .before .before .before .before .before .before .before .before .before .before .before .shared-slice-known2 .given i)) (λ i. omega (arith, c .before .before .before .before .before .before .before .before .before .before .before .before .before .before .shared-slice-known3 .given i)) (sym (c .before .before .before .before .before .before .before .before .before .before .before .before .box-size .ensures) ∙ c .before .before .before .before .before .before .before .before .before .before .s .given .1) (rw (c .before .before .before .before .a2 .given .1) at (c .before .before .before .before .before .before .before .explore-read .ensures)) (c .before .before .if1 .left)
+returns-4 c = c .add-up .ensures ∙ start-counted (c .before .before .before .before .before .before .before .before .before .before .before .before .before .before .before .before .before .pre) (sym (c .before .before .before .before .before .before .before .before .before .before .before .before .box-size .ensures) ∙ c .before .before .before .before .before .before .before .before .before .before .s .given .1) (rw (c .before .before .before .before .a2 .given .1) at (c .before .before .before .before .before .before .before .explore-read .ensures)) (c .before .before .if1 .left)
 
 pub count-read-spec : {M : Type 1} → statement M
 count-read-spec =

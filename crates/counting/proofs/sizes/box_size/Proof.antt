@@ -1,17 +1,15 @@
 -- `counting::sizes::box_size` meets its contract: the widths multiplied up, as long as the product is a word.
 -- Assumes nothing.
-use Prim.Native.Nat.{_-_, _/_, _^_, _≤_, _<_}
+use Prim.Native.Nat.{_+_, _-_, _*_, _/_, _^_, _≤_, _<_}
 use native.Mathlib.Nat.{div-le-self}
 use native.Mathlib.Omega.{arith}
 use denote.Ref.{now}
-use lib.ListN.{length}
+use lib.ListN.{length, getD}
 use Rattle.riscu.specs.Word.{maxWord}
 use Rattle.calls.specs.Call.{boxOf}
 use Rattle.counting.proofs.Products.{Multiplied, none-multiplied, all-multiplied, in-order, one-multiplied, too-large, small-enough, size-fits, pairs-length, pair-is}
 use Rattle.counting.proofs.sizes.box_size.Statement.{statement}
 use Rattle.counting.proofs.sizes.box_size.Tie as tie
-use Rattle.counting.proofs.sizes.box_size.Reads as reads
-use Rattle.counting.proofs.sizes.box_size.Lts as lts
 
 abbrev Inv-loop : tie.InvT-loop
 Inv-loop intervals n₀ i₀ n i = (i ≤ length intervals / 2) × (n < 2 ^ 64) × Multiplied (boxOf intervals) n i
@@ -72,7 +70,7 @@ returns c =
     let l = c .before .before .before .before .loop in
     let v = now (entry .args .intervals) in
     let h = pairs-length v in
-    too-large (boxOf v) (entry .pre) (omega arith) (l .inv .2) (pair-is v (l .i) (omega arith)) (c .if1 .taken)
+    too-large (boxOf v) (entry .pre) (omega arith) (l .inv .2) (pair-is v (l .i) (omega arith)) (omega (arith, c .if1 .taken))
 
 -- src/sizes.rt:33:18
 add-n : tie.Need-add-n Inv-loop μ-loop
@@ -80,7 +78,10 @@ add-n c = omega (arith, div-le-self maxWord (c .before .before .before .before .
 
 -- src/sizes.rt:33:13
 mul-n : tie.Need-mul-n Inv-loop μ-loop
-mul-n c = omega (arith, small-enough (c .before .before .before .before .loop .n) (c .if1 .left))
+mul-n c =
+    let l = c .before .before .before .before .loop in
+    let v = now (c .before .before .before .before .before .args .intervals) in
+    omega (arith, small-enough (l .n) (getD v (2 * l .i + 1) 0 - getD v (2 * l .i) 0) (omega (arith, c .if1 .left)))
 
 -- src/sizes.rt:34:9
 add-i : tie.Need-add-i Inv-loop μ-loop
@@ -98,7 +99,7 @@ loop-again c =
     let v = now (entry .args .intervals) in
     let h = pairs-length v in (
       omega arith,
-      omega (arith, small-enough (l .n) (c .if1 .left)),
+      omega (arith, small-enough (l .n) (getD v (2 * l .i + 1) 0 - getD v (2 * l .i) 0) (omega (arith, c .if1 .left))),
       one-multiplied (boxOf v) (entry .pre) (omega arith) (l .inv .2) (pair-is v (l .i) (omega arith)),
     )
 

@@ -1,6 +1,5 @@
 -- `counting::sizes::path_size` meets its contract: the widths multiplied up; the product is no more than the size.
 -- Assumes nothing.
-use mathlib.Core.Path.{_≡_}
 use Prim.Native.Nat.{_-_, _≤_}
 use native.Mathlib.Omega.{arith}
 use denote.Ref.{now}
@@ -9,10 +8,6 @@ use Rattle.counting.specs.Adding.{boxAt}
 use Rattle.counting.proofs.Products.{Multiplied, none-multiplied, all-multiplied, in-order, product-fits, width-fits, one-multiplied, record-length, interval-is}
 use Rattle.counting.proofs.sizes.path_size.Statement.{statement}
 use Rattle.counting.proofs.sizes.path_size.Tie as tie
-use Rattle.counting.proofs.sizes.path_size.Reads as reads
-use Rattle.counting.proofs.sizes.path_size.Lts as lts
-use Rattle.blocks.proofs.report.input_high.Reads as input-high-reads
-use Rattle.blocks.proofs.report.input_low.Reads as input-low-reads
 
 abbrev Inv-loop : tie.InvT-loop
 Inv-loop report inputs k n₀ i₀ n i = (i ≤ inputs) × Multiplied (boxAt inputs (recordAt inputs report k)) n i
