@@ -18,7 +18,7 @@ use Rattle.calls.specs.Call.{boxOf}
 use Rattle.demands.proofs.Accepted.{pair-at}
 use Rattle.riscu.specs.Word.{maxWord}
 use Rattle.counting.specs.Adding.{sized, boxAt}
-use Rattle.counting.specs.declared.sizes.Size.the-variants.{Fits, Over}
+use Rattle.counting.specs.declared.sizes.BoxSize.the-variants.{Fits, Over}
 use Rattle.counting.proofs.Widths.{size-cons}
 
 proper-drop : (b : Box) (i : ℕ) → Proper b → Proper (drop i b)

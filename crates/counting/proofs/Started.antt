@@ -24,7 +24,7 @@ use Rattle.counting.specs.Counting.{mostPaths}
 use Rattle.counting.specs.Count.{countRefused}
 use Rattle.counting.specs.Adding.{sized, Part, partOf, partsIn, addedUp, Adds, startedCall, Startable, startedJob, countedJob}
 use Rattle.counting.specs.declared.CountRefusal.the-variants as refusal
-use Rattle.counting.specs.declared.sizes.Size.the-variants.{Fits, Over}
+use Rattle.counting.specs.declared.sizes.BoxSize.the-variants.{Fits, Over}
 use Rattle.counting.proofs.Explored as explored
 
 sized-fits : (s : ℕ) {t : ℕ} → sized s ≡ Fits t → (s ≡ t) × (ltb s (2 ^ 64) ≡ true)

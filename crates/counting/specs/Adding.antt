@@ -22,11 +22,11 @@ use Rattle.counting.specs.Counting.{Result, resultOf, mostPaths, kindPla
 use Rattle.counting.specs.Count.{sizeFits, pathsFit, countRefused}
 use Rattle.counting.specs.declared.Counted.{Counted}
 use Rattle.counting.specs.declared.CountRefusal.the-variants as refusal
-use Rattle.counting.specs.declared.sizes.Size.{Size}
-use Rattle.counting.specs.declared.sizes.Size.the-variants.{Fits, Over}
+use Rattle.counting.specs.declared.sizes.BoxSize.{BoxSize}
+use Rattle.counting.specs.declared.sizes.BoxSize.the-variants.{Fits, Over}
 
 -- a size as the code holds it
-abbrev pub sized : ℕ → Size
+abbrev pub sized : ℕ → BoxSize
 sized n = cond (ltb n (2 ^ 64)) (Fits n) Over
 
 -- a box with a choice, and with fewer than 2^64

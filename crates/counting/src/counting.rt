@@ -3,7 +3,7 @@ use crate::CountRefusal;
 use crate::Counted;
 use crate::MOST_PATHS;
 use crate::adding::add_up;
-use crate::sizes::Size;
+use crate::sizes::BoxSize;
 use crate::sizes::box_size;
 use crate::turned_away;
 use blocks::MOST_INPUTS;
@@ -27,7 +27,7 @@ fn count_read(code: &[u32], intervals: &[u64], memory: &[u64], counts: Counts) -
 {
     let m = 2 * counts.inputs as usize;
     let s = box_size(&intervals[..m]);
-    let Size::Fits(total) = s else {
+    let BoxSize::Fits(total) = s else {
         return turned_away(CountRefusal::Size);
     };
     let from_start = Counts {

@@ -13,13 +13,13 @@ ghost use Rattle.counting.specs.Adding.{sized, boxAt, FitsWord};
 const MAX: u64 = 18446744073709551615;
 
 // A size that is a word, or one that is too large for a word.
-pub(crate) enum Size {
+pub(crate) enum BoxSize {
     Fits(u64),
     Over,
 }
 
 // The size of the box of some intervals, low, high, low, high.
-pub(crate) fn box_size(intervals: &[u64]) -> Size
+pub(crate) fn box_size(intervals: &[u64]) -> BoxSize
     requires { ⌜ Proper (boxOf (now intervals)) ⌝ }
     ensures { λ r. ⌜ r ≡ sized (size (boxOf (now (intervals .entry)))) ⌝ }
 {
@@ -28,12 +28,12 @@ pub(crate) fn box_size(intervals: &[u64]) -> Size
     while i < intervals.len() / 2 {
         let more = intervals[2 * i + 1] - intervals[2 * i];
         if MAX / n <= more {
-            return Size::Over;
+            return BoxSize::Over;
         }
         n = n * (more + 1);
         i += 1;
     }
-    Size::Fits(n)
+    BoxSize::Fits(n)
 }
 
 // The size of the box of record k.
