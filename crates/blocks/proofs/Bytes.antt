@@ -93,10 +93,15 @@ word-left xs ys k l =
       take-append-le wordBytes (drop (k * wordBytes) xs) ys (rw length-drop (omega arith)),
     )
 
+pub word-right : (xs ys : List ℕ) (n k : ℕ) → length xs ≡ n * wordBytes → wordAt (xs ++ ys) (n + k) ≡ wordAt ys k
+word-right xs ys n k e =
+    let z : (n + k) * wordBytes ≡ length xs + k * wordBytes = omega arith in
+    rw (z, drop-append-add xs ys (k * wordBytes))
+
 word-next : (w : ℕ) (ys : List ℕ) (k : ℕ) → wordAt (bytesOf wordBytes w ++ ys) (suc k) ≡ wordAt ys k
 word-next w ys k =
-    let z : suc k * wordBytes ≡ length (bytesOf wordBytes w) + k * wordBytes = omega (arith, bytes-length wordBytes w) in
-    rw (z, drop-append-add (bytesOf wordBytes w) ys (k * wordBytes))
+    let z : suc k ≡ 1 + k = omega arith in
+    rw z (word-right (bytesOf wordBytes w) ys 1 k (bytes-length wordBytes w))
 
 pub word-at : (ws : List ℕ) (k : ℕ) → k < length ws → getD ws k 0 < 2 ^ 64 → wordAt (bytesOfAll ws) k ≡ getD ws k 0
 unfolding flatMap

@@ -9,19 +9,19 @@ use native.Mathlib.Omega.{arith}
 use native.Mathlib.Nat.{zero-add}
 use borrow.Author.Tests.{eq-eqb}
 use lib.ListN.{length, getD, drop, length-append, length-drop, length-map, List·getD-append, List·getD-eq-default, getElem?}
-use lib.Seq.{getD-append-add, getD-at, getD-drop, ext-getD, take-at, drop-at, drop-append-add}
+use lib.Seq.{getD-at, getD-drop, ext-getD, take-at, drop-at, drop-append-add}
 use Rattle.boxes.specs.Boxes.{Interval, _⋯_, at, from, lows, highs, _∈_}
 use Rattle.boxes.proofs.Lists.{length-from, from-at}
 use Rattle.listing.specs.Listing.{Path}
 use Rattle.listing.specs.Numbers.{kindNumber, reasonWord}
 use Rattle.blocks.specs.Block.{blockBytes, payloadWords, check, payload, block, wordAt, agrees}
 use Rattle.blocks.specs.Layout as place
-use Rattle.blocks.specs.Record.{mostInputs, padded, registerOf, exitOf, ends, firstWords, secondWords, recordOf, records, recordBytes}
+use Rattle.blocks.specs.Record.{mostInputs, registerOf, exitOf, ends, firstWords, secondWords, recordOf, records, recordBytes}
 use Rattle.blocks.specs.Reading.{second, Tells}
 use Rattle.blocks.specs.Report.{recordAt}
 use Rattle.blocks.proofs.Bytes.{word-left, word-at, getD-padded, payload-length, block-length}
 use Rattle.blocks.proofs.Check.{check-word}
-use Rattle.blocks.proofs.Rows.{padded-length, first-length}
+use Rattle.blocks.proofs.Rows.{first-length, low-at, high-at, back-at}
 
 abbrev pub Words : List ℕ → Type 0
 Words ws = (k : ℕ) → getD ws k 0 < 2 ^ 64
@@ -94,50 +94,30 @@ module _ (n : ℕ) (p : Path) (inputs : length (p .box) ≤ mostInputs) (registe
   abbrev head : List ℕ
   head = n ∷ kindNumber (p .end) ∷ p .pc ∷ p .steps ∷ length (p .box) ∷ []
 
-  abbrev ls : List ℕ
-  ls = padded (lows (p .box))
-
-  abbrev hs : List ℕ
-  hs = padded (highs (p .box))
-
   abbrev tail : List ℕ
   tail = exitOf p .low ∷ exitOf p .high ∷ reasonWord (p .end) ∷ p .reads ∷ []
-
-  ls-length : length ls ≡ mostInputs
-  ls-length = padded-length (lows (p .box)) (rw length-map inputs)
-
-  hs-length : length hs ≡ mostInputs
-  hs-length = padded-length (highs (p .box)) (rw length-map inputs)
 
   second-length : length (secondWords n p) ≡ payloadWords
   unfolding secondWords
   second-length = omega (arith, ends-length (drop 1 (p .registers)), length-drop 1 (p .registers))
 
+  few-lows : length (lows (p .box)) ≤ mostInputs
+  few-lows = rw length-map inputs
+
+  few-highs : length (highs (p .box)) ≤ mostInputs
+  few-highs = rw length-map inputs
+
   first-low : (i : ℕ) → i < mostInputs → getD (firstWords n p) (place.lows + i) 0 ≡ at (lows (p .box)) i
   unfolding firstWords
-  first-low i l =
-      getD-append-add head (ls ++ (hs ++ tail)) i 0
-      ∙ List·getD-append ls (hs ++ tail) 0 i (omega (arith, ls-length))
-      ∙ getD-padded (lows (p .box)) (mostInputs - length (lows (p .box))) i
+  first-low = low-at head (lows (p .box)) (highs (p .box)) tail refl few-lows few-highs
 
   first-high : (i : ℕ) → i < mostInputs → getD (firstWords n p) (place.highs + i) 0 ≡ at (highs (p .box)) i
   unfolding firstWords
-  first-high i l =
-      let e : place.highs + i ≡ place.lows + (length ls + i) = omega (arith, ls-length) in
-      rw e
-      (getD-append-add head (ls ++ (hs ++ tail)) (length ls + i) 0
-      ∙ getD-append-add ls (hs ++ tail) i 0
-      ∙ List·getD-append hs tail 0 i (omega (arith, hs-length))
-      ∙ getD-padded (highs (p .box)) (mostInputs - length (highs (p .box))) i)
+  first-high = high-at head (lows (p .box)) (highs (p .box)) tail refl few-lows few-highs
 
   first-tail : (i : ℕ) → getD (firstWords n p) (place.exitLow + i) 0 ≡ getD tail i 0
   unfolding firstWords
-  first-tail i =
-      let e : place.exitLow + i ≡ place.lows + (length ls + (length hs + i)) = omega (arith, ls-length, hs-length) in
-      rw e
-      (getD-append-add head (ls ++ (hs ++ tail)) (length ls + (length hs + i)) 0
-      ∙ getD-append-add ls (hs ++ tail) (length hs + i) 0
-      ∙ getD-append-add hs tail i 0)
+  first-tail = back-at head (lows (p .box)) (highs (p .box)) tail refl few-lows few-highs
 
   second-at : (r : ℕ)
       → (getD (secondWords n p) (1 + 2 * r) 0 ≡ registerOf p (1 + r) .low)

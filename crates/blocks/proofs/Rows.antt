@@ -6,8 +6,8 @@ use Prim.Native.Nat.{ℕ, zero, suc, _+_, _-_, _*_, _<_, _≤_}
 use native.Mathlib.Numerals.{add-one, unary-clauses}
 use native.Mathlib.Nat.{zero-sub}
 use native.Mathlib.Omega.{arith}
-use lib.ListN.{length, getD, set, take, drop, replicate, length-append, length-replicate, length-map, length-set, drop-of-length-le}
-use lib.Seq.{sets, sets-eq, drop-cons, take-at, take-suc-set, take-all, drop-append-le, drop-append-add}
+use lib.ListN.{length, getD, set, take, drop, replicate, length-append, length-replicate, length-map, length-set, drop-of-length-le, List·getD-append}
+use lib.Seq.{sets, sets-eq, drop-cons, take-at, take-suc-set, take-all, drop-append-le, drop-append-add, getD-append-add}
 use Rattle.boxes.specs.Boxes.{_⋯_, lows, highs}
 use Rattle.boxes.specs.Cuts.{boxIn}
 use Rattle.boxes.proofs.TwoLists.{lows-in, highs-in, length-in, at-in}
@@ -18,7 +18,7 @@ use Rattle.blocks.specs.Layout as place
 use Rattle.blocks.specs.Record.{recordBytes, mostInputs, padded, exitWord, firstWords, ends, secondWords, recordOf}
 use Rattle.blocks.specs.Writing.{put, pathIn, withPath}
 use Rattle.blocks.specs.declared.record.Ended.{Ended}
-use Rattle.blocks.proofs.Bytes.{payload-length, block-length}
+use Rattle.blocks.proofs.Bytes.{getD-padded, payload-length, block-length}
 use Rattle.blocks.proofs.Written.{two-blocks}
 
 -- the first block
@@ -54,6 +54,45 @@ inputs-put front rest ws at e few =
       append-assoc ws,
     )
 
+-- A block with the lows and the highs of the inputs, at the places that a path's first block and a job's header share.
+module _ (front ls hs back : List ℕ) (size : length front ≡ place.lows) (few-lows : length ls ≤ mostInputs) (few-highs : length hs ≤ mostInputs) where
+  abbrev pub withEnds : List ℕ
+  withEnds = front ++ (padded ls ++ (padded hs ++ back))
+
+  -- put where there were zeros
+  pub ends-put : sets (sets (front ++ (replicate mostInputs 0 ++ (replicate mostInputs 0 ++ back))) place.lows ls) place.highs hs ≡ withEnds
+  ends-put =
+      let n : length (front ++ padded ls) ≡ place.highs = rw (length-append, padded-length ls few-lows, size) in
+      ap (λ (l : List ℕ). sets l place.highs hs)
+      (inputs-put front (replicate mostInputs 0 ++ back) ls place.lows size few-lows ∙ sym (append-assoc front (padded ls) (replicate mostInputs 0 ++ back)))
+      ∙ inputs-put (front ++ padded ls) back hs place.highs n few-highs
+      ∙ append-assoc front (padded ls) (padded hs ++ back)
+
+  pub low-at : (i : ℕ) → i < mostInputs → getD withEnds (place.lows + i) 0 ≡ getD ls i 0
+  low-at i l =
+      rw (← size)
+      (getD-append-add front (padded ls ++ (padded hs ++ back)) i 0
+      ∙ List·getD-append (padded ls) (padded hs ++ back) 0 i (omega (arith, padded-length ls few-lows))
+      ∙ getD-padded ls (mostInputs - length ls) i)
+
+  behind-lows : (i : ℕ) → getD withEnds (place.highs + i) 0 ≡ getD (padded hs ++ back) i 0
+  behind-lows i =
+      let e : place.highs + i ≡ length front + (length (padded ls) + i) = omega (arith, padded-length ls few-lows) in
+      rw e
+      (getD-append-add front (padded ls ++ (padded hs ++ back)) (length (padded ls) + i) 0
+      ∙ getD-append-add (padded ls) (padded hs ++ back) i 0)
+
+  pub high-at : (i : ℕ) → i < mostInputs → getD withEnds (place.highs + i) 0 ≡ getD hs i 0
+  high-at i l =
+      behind-lows i
+      ∙ List·getD-append (padded hs) back 0 i (omega (arith, padded-length hs few-highs))
+      ∙ getD-padded hs (mostInputs - length hs) i
+
+  pub back-at : (i : ℕ) → getD withEnds (place.exitLow + i) 0 ≡ getD back i 0
+  back-at i =
+      let e : place.exitLow + i ≡ place.highs + (length (padded hs) + i) = omega (arith, padded-length hs few-highs) in
+      rw e (behind-lows (length (padded hs) + i) ∙ getD-append-add (padded hs) back i 0)
+
 module _ (p : Ended) (ls hs rls rhs : List ℕ) (few : length ls ≤ mostInputs) (same : length ls ≡ length hs) (registers : length rls ≡ length rhs) where
   abbrev front : List ℕ
   front = p .number ∷ kindNumber (p .end) ∷ p .pc ∷ p .steps ∷ length ls ∷ []
@@ -73,9 +112,7 @@ module _ (p : Ended) (ls hs rls rhs : List ℕ) (few : length ls ≤ mostInputs)
 
   first-is : sets (sets (front ++ (zeros ++ (zeros ++ (back ++ unused)))) place.lows ls) place.highs hs ≡ payload (firstWords (p .number) (pathIn p ls hs rls rhs))
   first-is =
-      let n : length (front ++ padded ls) ≡ place.highs = rw (length-append, padded-length ls few) in
-      ap (λ (l : List ℕ). sets l place.highs hs) (inputs-put front (zeros ++ (back ++ unused)) ls place.lows refl few ∙ sym (append-assoc front (padded ls) (zeros ++ (back ++ unused))))
-      ∙ inputs-put (front ++ padded ls) (back ++ unused) hs place.highs n (omega arith)
+      ends-put front ls hs (back ++ unused) refl few (omega arith)
       ∙ rw (first-length (p .number) (pathIn p ls hs rls rhs) (rw (length-in ls hs same) few), first-are) (simp append-assoc)
 
   -- the words that are stored, each by what it is

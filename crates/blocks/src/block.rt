@@ -75,7 +75,7 @@ pub fn word_or_zero(words: &[u64], k: usize) -> u64
 }
 
 // Writes the block of at most 63 words from `at` on: the words, zeros, the check.
-pub(crate) fn put_block(bytes: &mut [u8], at: usize, words: &[u64])
+pub fn put_block(bytes: &mut [u8], at: usize, words: &[u64])
     requires { ⌜ (at + blockBytes ≤ length (now bytes)) × (length (now words) ≤ payloadWords) ⌝ }
     ensures { λ _. ⌜ now (bytes .exit) ≡ put (now (bytes .entry)) at (block (now (words .entry))) ⌝ }
 {

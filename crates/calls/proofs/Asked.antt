@@ -1,10 +1,10 @@
--- The first no of some questions: what one more question does to it, and where it stands. Two more numbers of the intervals in order.
+-- The first no of some questions: what one more question does to it, where it stands, and what it is under another refusal. Two more numbers of the intervals in order.
 -- Assumes nothing.
 use mathlib.Core.Path.{_≡_, refl, sym, ap, _∙_}
 use mathlib.Core.Logic.{_↔_, ⊎-elim}
 use mathlib.Core.Bool.{Bool, true, false, not, _&&_}
-use mathlib.Core.List.{List, [], _∷_, _++_, List·Memᴰ·not-nil, List·Memᴰ·cases-cons, List·Memᴰ·head as here, List·Memᴰ·tail as there}
-use mathlib.Core.Option.{none, some}
+use mathlib.Core.List.{List, [], _∷_, _++_, map, List·Memᴰ·not-nil, List·Memᴰ·cases-cons, List·Memᴰ·head as here, List·Memᴰ·tail as there}
+use mathlib.Core.Option.{Option, none, some}
 use Prim.Native.Nat.{ℕ, suc, _+_, _-_, _<_, _≤_}
 use native.Mathlib.Numerals.{add-one}
 use native.Mathlib.Omega.{arith}
@@ -103,6 +103,53 @@ module _ {A : Type 0} (answer : A → Bool) where
   pub first-goes : (rs qs : List A) → firstNo answer rs ≡ none → firstNo answer (rs ++ qs) ≡ firstNo answer qs
   first-goes [] qs e = refl
   first-goes (q ∷ rs) qs e = let (y, f) = passed q rs e in yes-on q (rs ++ qs) y ∙ first-goes rs qs f
+
+-- answers that agree while they are yes have one first no
+pub first-same : {A : Type 0} (f g : A → Bool) (r : A) (rs : List A) → f r ≡ g r → (g r ≡ true → firstNo f rs ≡ firstNo g rs)
+    → firstNo f (r ∷ rs) ≡ firstNo g (r ∷ rs)
+unfolding firstNo
+first-same f g r rs e h = by-test (g r) (λ y. rw (e, y) (h y)) (λ n. rw (e, n))
+
+-- questions under another refusal have the same first no
+module _ {R Q : Type 0} (under : R → Q) (answer : Q → Bool) where
+  under-no : (rs : List R) {r : R} → firstNo (λ q. answer (under q)) rs ≡ some r → firstNo answer (map under rs) ≡ some (under r)
+  unfolding firstNo
+  under-no [] e = let z : _≡_ {A = ℕ} 0 1 = cc in absurd (omega arith)
+  under-no (q ∷ rs) {r} e =
+      by-test (answer (under q))
+      (λ y. rw y (under-no rs (rw y at e)))
+      (λ n. let f = rw n at e in let z : q ≡ r = cc in rw (n, z))
+
+  pub under-yes : (rs : List R) → firstNo (λ q. answer (under q)) rs ≡ none → firstNo answer (map under rs) ≡ none
+  unfolding firstNo
+  under-yes [] e = refl
+  under-yes (q ∷ rs) e =
+      by-test (answer (under q))
+      (λ y. rw y (under-yes rs (rw y at e)))
+      (λ n. let f = rw n at e in let z : _≡_ {A = ℕ} 0 1 = cc in absurd (omega arith))
+
+  -- with one more question behind them, which is another
+  module _ (rs : List R) (last : Q) (r : R) (one : (q : R) → under q ≡ under r → q ≡ r) (other : last ≡ under r → ⊥) where
+    no-more : firstNo answer (last ∷ []) ≡ some (under r) → ⊥
+    unfolding firstNo
+    no-more e =
+        by-test (answer last)
+        (λ y. let f = rw y at e in let z : _≡_ {A = ℕ} 0 1 = cc in absurd (omega arith))
+        (λ n. let f = rw n at e in let z : last ≡ under r = cc in other z)
+
+    under-first : (o : Option R) → firstNo (λ q. answer (under q)) rs ≡ o → firstNo answer (map under rs ++ last ∷ []) ≡ some (under r) → o ≡ some r
+    under-first (some q) d e =
+        let f = first-stays answer (map under rs) (last ∷ []) (under-no rs d) in
+        let g = sym f ∙ e in
+        let z : under q ≡ under r = cc in
+        ap (λ (x : R). some x) (one q z)
+    under-first none d e = absurd (no-more (sym (first-goes answer (map under rs) (last ∷ []) (under-yes rs d)) ∙ e))
+
+    pub under-refused : (firstNo answer (map under rs ++ last ∷ []) ≡ some (under r)) ↔ (firstNo (λ q. answer (under q)) rs ≡ some r)
+    under-refused = (
+      under-first (firstNo (λ q. answer (under q)) rs) refl,
+      λ e. first-stays answer (map under rs) (last ∷ []) (under-no rs e),
+    )
 
 short : (v : List ℕ) → length v < 2 → inOrder (boxOf v) ≡ true
 unfolding inOrder boxOf

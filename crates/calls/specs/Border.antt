@@ -25,6 +25,10 @@ abbrev pub refusedBy : Answer → ℕ
 refusedBy (Refused r) = number r
 refusedBy (Page n m) = 0
 
+-- document 02's number where the space lent for a text or a job is too short (Nos. 6 and 8)
+abbrev pub spaceNumber : ℕ
+spaceNumber = 14
+
 -- 1 for yes, 0 for no
 abbrev pub yesNumber : Bool → ℕ
 yesNumber true = 1

@@ -7,6 +7,9 @@ ghost use Rattle.calls.specs.Border.{yesNumber, replyOf};
 
 pub mod questions;
 
+// Document 02's number where the space lent for a text or a job is too short (Nos. 6 and 8).
+pub const SPACE_NUMBER: u64 = 14;
+
 // Why a call is refused: document 01's questions, each with its number.
 pub enum Refusal {
     Code,

@@ -1,9 +1,9 @@
 -- The size of a box, multiplied up width by width.
 -- Assumes nothing.
-use mathlib.Core.Path.{_≡_, refl, sym, ap, _∙_}
+use mathlib.Core.Path.{_≡_, sym, ap, _∙_}
 use mathlib.Core.List.{List, [], _∷_}
 use Prim.Native.Nat.{ℕ, zero, suc, _+_, _-_, _*_, _/_, _^_, _≤_, _<_}
-use native.Mathlib.Nat.{zero-add, add-zero, mul-assoc, mul-one, one-mul, one-le-mul, mul-le-mul-left, mul-le-mul-right, le-mul-of-pos-right, lt-mul-div-succ, mul-div-le}
+use native.Mathlib.Nat.{zero-add, mul-assoc, mul-one, one-mul, one-le-mul, mul-le-mul-left, mul-le-mul-right, le-mul-of-pos-right, lt-mul-div-succ, mul-div-le}
 use native.Mathlib.Numerals.{add-one}
 use native.Mathlib.Omega.{arith}
 use lib.ListN.{length, getD, drop, drop-of-length-le, length-map}
@@ -14,8 +14,6 @@ use Rattle.boxes.proofs.Choices.{size-positive}
 use Rattle.boxes.proofs.Lists.{from-at, length-from}
 use Rattle.blocks.specs.Block.{wordAt}
 use Rattle.blocks.specs.Layout as layout
-use Rattle.calls.specs.Call.{boxOf}
-use Rattle.demands.proofs.Accepted.{pair-at}
 use Rattle.riscu.specs.Word.{maxWord}
 use Rattle.counting.specs.Adding.{sized, boxAt}
 use Rattle.counting.specs.declared.sizes.BoxSize.the-variants.{Fits, Over}
@@ -102,16 +100,7 @@ small-enough n more l =
 pub size-fits : (b : Box) {n : ℕ} → n ≡ size b → n < 2 ^ 64 → Fits n ≡ sized (size b)
 size-fits b {n} e l = ap Fits e ∙ rw (lt-ltb (size b) (2 ^ 64) (omega arith))
 
--- the boxes of the two functions
-
-pub pairs-length : (l : List ℕ) → length (boxOf l) ≡ length l / 2
-unfolding boxOf
-pairs-length [] = refl
-pairs-length (x ∷ []) = refl
-pairs-length (x ∷ (y ∷ l)) = omega (arith, pairs-length l)
-
-pub pair-is : (l : List ℕ) (i : ℕ) → i < length l / 2 → getD (boxOf l) i (0 ⋯ 0) ≡ getD l (2 * i) 0 ⋯ getD l (2 * i + 1) 0
-pair-is l i h = rw add-zero at (pair-at l i (omega (arith, pairs-length l)))
+-- the box of a record
 
 pub record-length : (n : ℕ) (bytes : List ℕ) → length (boxAt n bytes) ≡ n
 unfolding boxAt

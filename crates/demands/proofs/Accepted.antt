@@ -4,12 +4,12 @@ use mathlib.Core.Path.{_≡_, refl, sym, _∙_, subst}
 use mathlib.Core.Bool.{Bool, true, _&&_, and-eq-true-iff}
 use mathlib.Core.List.{List, [], _∷_}
 use mathlib.Core.Option.{none}
-use Prim.Native.Nat.{ℕ, zero, suc, _+_, _*_, _%_, _^_, _≤_, _<_}
+use Prim.Native.Nat.{ℕ, _*_, _%_, _^_, _≤_}
 use native.Mathlib.Omega.{arith}
 use lib.Dec.{leb, eqb}
-use lib.ListN.{length, getD}
+use lib.ListN.{length}
 use borrow.Author.Tests.{leb-true, eqb-true}
-use Rattle.boxes.specs.Boxes.{Box, _⋯_, Proper, from, lows, highs, _∈_}
+use Rattle.boxes.specs.Boxes.{Interval, Box, Proper, from, lows, _∈_}
 use Rattle.boxes.proofs.Choices.{inside-length}
 use Rattle.listing.specs.Group.{Job}
 use Rattle.listing.specs.Listing.{Path, pathOf, listing}
@@ -20,6 +20,7 @@ use Rattle.calls.specs.Call.{Call, inputsOf, Below, boxOf, inOrder, asks, quest
 use Rattle.calls.specs.declared.Refusal.{Refusal}
 use Rattle.calls.specs.declared.Refusal.the-variants.{Code, Inputs, Order, Memory}
 use Rattle.calls.proofs.Asked.{all-yes}
+use Rattle.calls.proofs.Pairs.{pairs, sides-below}
 use Rattle.calls.proofs.Numbers.{among-questions}
 use Rattle.demands.proofs.Faithful.{listing-faithful}
 use Rattle.corners.specs.Good.{Sound}
@@ -31,31 +32,6 @@ in-order-proper : (b : Box) → inOrder b ≡ true → Proper b
 unfolding inOrder
 in-order-proper [] e = tt
 in-order-proper (v ∷ b) e = let (h, r) = both (leb (v .low) (v .high)) (inOrder b) e in (leb-true (v .low) (v .high) h, in-order-proper b r)
-
-highs-below : (n : ℕ) (v : List ℕ) → 0 < n → Below n v → Below n (highs (boxOf v))
-unfolding boxOf
-highs-below n [] p h k = p
-highs-below n (l ∷ []) p h k = p
-highs-below n (l ∷ (x ∷ v)) p h zero = h 1
-highs-below n (l ∷ (x ∷ v)) p h (suc k) = highs-below n v p (λ i. h (suc (suc i))) k
-
--- the box of whole pairs has an interval for each
-pub pairs : (v : List ℕ) → length v % 2 ≡ 0 → 2 * length (boxOf v) ≡ length v
-unfolding boxOf
-pairs [] e = refl
-pairs (l ∷ []) e = absurd (omega arith)
-pairs (l ∷ (h ∷ v)) e = omega (arith, pairs v (omega arith))
-
--- and each interval has its two numbers
-pub pair-at : (v : List ℕ) (i : ℕ) → i < length (boxOf v) → getD (boxOf v) i (0 ⋯ 0) ≡ getD v (2 * i + 0) 0 ⋯ getD v (2 * i + 1) 0
-unfolding boxOf
-pair-at [] i h = absurd (omega arith)
-pair-at (l ∷ []) i h = absurd (omega arith)
-pair-at (l ∷ (x ∷ v)) zero h = refl
-pair-at (l ∷ (x ∷ v)) (suc i) h =
-    let a : 2 * suc i + 0 ≡ suc (suc (2 * i + 0)) = omega arith in
-    let b : 2 * suc i + 1 ≡ suc (suc (2 * i + 1)) = omega arith in
-    rw (a, b) (pair-at v i (omega arith))
 
 module _ (memory : List ℕ) (words : ℕ) (c : Call) (e : refusalOf memory words c ≡ none) where
   pub accepted-yes : (q : Refusal) → asks memory words c q ≡ true
@@ -82,7 +58,7 @@ module _ (memory : List ℕ) (words : ℕ) (c : Call) (e : refusalOf memory word
         code = leb-true (length (c .code)) codeWords (both (leb 1 (length (c .code))) _ (accepted-yes Code) .1);
         memory = record { count = eqb-true (length memory) memoryWords (accepted-yes Memory); words = m };
         proper = in-order-proper (boxOf (c .intervals)) (accepted-yes Order);
-        inputs = highs-below (2 ^ 64) (c .intervals) (omega arith) t;
+        inputs = sides-below (2 ^ 64) (λ (i : Interval). i .high) (λ l h a b. b) (omega arith) (c .intervals) t;
       }
 
 -- a path of the listing has the job's inputs and 32 registers

@@ -20,7 +20,8 @@ use Rattle.calls.specs.Call.{Call, callOf, Below, boxOf, asks, refusalOf, jobOf
 use Rattle.calls.specs.declared.Refusal.{Refusal}
 use Rattle.calls.specs.declared.Refusal.the-variants.{Inputs, Limit, Memory, Report, First}
 use Rattle.calls.specs.declared.Answer.the-variants.{Page}
-use Rattle.demands.proofs.Accepted.{both, pairs, pair-at, accepted-yes, accepted-sound}
+use Rattle.calls.proofs.Pairs.{pairs, pair-at}
+use Rattle.demands.proofs.Accepted.{both, accepted-yes, accepted-sound}
 use Rattle.riscu.specs.Limits.{memoryWords}
 use Rattle.calls.specs.Limits.{mostSteps, entryWords, firstEnd}
 use Rattle.decide.specs.declared.Limits.{Limits}

@@ -1,6 +1,6 @@
 -- What an accepted job gives to a call: of the questions only 5 and 7, on the table and the report, are left to ask.
 -- Assumes nothing.
-use mathlib.Core.Path.{_≡_, _∙_}
+use mathlib.Core.Path.{_≡_, sym, _∙_}
 use mathlib.Core.Bool.{Bool, true}
 use mathlib.Core.List.{List, [], _∷_}
 use mathlib.Core.Option.{none}
@@ -9,15 +9,16 @@ use native.Mathlib.Omega.{arith}
 use borrow.Author.Tests.{le-leb, eq-eqb}
 use lib.ListN.{length, take, length-append, length-replicate}
 use lib.Seq.{take-at}
+use Rattle.boxes.specs.Boxes.{_∈_}
 use Rattle.riscu.specs.Limits.{memoryWords}
 use Rattle.blocks.specs.Record.{mostInputs}
 use Rattle.calls.specs.Limits.{entryWords}
 use Rattle.calls.specs.Call.{asks, firstNo, refusalOf}
 use Rattle.calls.specs.declared.Refusal.{Refusal}
 use Rattle.calls.specs.declared.Refusal.the-variants.{Code, Inputs, Order, Limit, Table, Memory, Report, First}
-use Rattle.jobs.specs.Job.{codeCount, inputCount, givenCount, codeAt, memoryAt, intervalAt, codeIn, intervalsIn, memoryIn, jobRead, callIn, codeFits, ordered, limitFits, firstFits, jobRefusalOf}
+use Rattle.jobs.specs.Job.{codeCount, inputCount, givenCount, codeAt, memoryAt, intervalAt, codeIn, intervalsIn, memoryIn, jobRead, callIn, codeFits, ordered, limitFits, firstFits, headerQuestions, jobRefusalOf}
 use Rattle.jobs.specs.Reading.{over}
-use Rattle.calls.proofs.Asked.{yes-on}
+use Rattle.calls.proofs.Asked.{yes-on, passes, all-yes}
 use Rattle.jobs.proofs.Copied.{copied}
 use Rattle.jobs.proofs.Asked.{yes-passed, yes-sized}
 
@@ -43,7 +44,7 @@ last-yes : (answer : Refusal → Bool) (r q : Refusal) → answer q ≡ true →
 unfolding firstNo
 last-yes answer r q e = rw e
 
-module _ (bytes report : List ℕ) (words : ℕ) (e : jobRefusalOf bytes ≡ none) (table : entryWords ≤ words) where
+module _ (bytes report : List ℕ) (words : ℕ) (e : jobRefusalOf bytes ≡ none) where
   abbrev answer : Refusal → Bool
   answer = asks (jobRead bytes .memory) words (callIn bytes report)
 
@@ -66,9 +67,9 @@ module _ (bytes report : List ℕ) (words : ℕ) (e : jobRefusalOf bytes ≡ non
   unfolding asks jobRead limitFits
   limit-asked = yes-passed bytes e .limit
 
-  table-asked : answer Table ≡ true
+  table-asked : entryWords ≤ words → answer Table ≡ true
   unfolding asks
-  table-asked = le-leb entryWords words table
+  table-asked h = le-leb entryWords words h
 
   memory-asked : answer Memory ≡ true
   unfolding asks jobRead
@@ -78,12 +79,24 @@ module _ (bytes report : List ℕ) (words : ℕ) (e : jobRefusalOf bytes ≡ non
   unfolding asks jobRead firstFits
   first-asked = yes-passed bytes e .first
 
-  pub accepted-refusal : refusalOf (jobRead bytes .memory) words (callIn bytes report) ≡ firstNo answer (Report ∷ [])
-  accepted-refusal =
+  -- what is read passes the questions on the header once more, as a call asks them
+  pub header-asked : (r : Refusal) → r ∈ headerQuestions → answer r ≡ true
+  header-asked =
+      all-yes answer headerQuestions .0
+      (yes-on answer Code _ code-asked
+      ∙ yes-on answer Inputs _ inputs-asked
+      ∙ yes-on answer Order _ order-asked
+      ∙ yes-on answer Limit _ limit-asked
+      ∙ yes-on answer Memory _ memory-asked
+      ∙ yes-on answer First _ first-asked
+      ∙ sym (passes answer))
+
+  pub accepted-refusal : entryWords ≤ words → refusalOf (jobRead bytes .memory) words (callIn bytes report) ≡ firstNo answer (Report ∷ [])
+  accepted-refusal table =
       yes-on answer Code _ code-asked
       ∙ yes-on answer Inputs _ inputs-asked
       ∙ yes-on answer Order _ order-asked
       ∙ yes-on answer Limit _ limit-asked
-      ∙ yes-on answer Table _ table-asked
+      ∙ yes-on answer Table _ (table-asked table)
       ∙ yes-on answer Memory _ memory-asked
       ∙ last-yes answer Report First first-asked

@@ -15,7 +15,7 @@ use Rattle.jobs.specs.Job.{codeCount, inputCount, givenCount, wholeBlock
 use Rattle.jobs.specs.Reading.{Whole, Sized}
 use Rattle.calls.proofs.Asked.{passed}
 
-both : (a b : Bool) → a && b ≡ true → (a ≡ true) × (b ≡ true)
+pub both : (a b : Bool) → a && b ≡ true → (a ≡ true) × (b ≡ true)
 both a b = and-eq-true-iff a b .0
 
 -- what the questions on the counts leave

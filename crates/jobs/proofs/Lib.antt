@@ -4,6 +4,7 @@
 --     Copied      one more word of those that are copied
 --     Asked       what the questions on a job leave
 --     Accepted    an accepted job leaves only questions 5 and 7 of a call
+--     Typed       what is read from bytes is of its types
 --     Numbers     no two refusals share a number
 --     Examples    document 01's Job A, read, and changes of it, refused
 pub mod Placed
@@ -11,5 +12,6 @@ pub mod Pairs
 pub mod Copied
 pub mod Asked
 pub mod Accepted
+pub mod Typed
 pub mod Numbers
 pub mod Examples

@@ -4,6 +4,10 @@ use Prim.Native.Nat.{ℕ}
 abbrev pub mark : ℕ
 mark = 0
 
+-- what it holds
+abbrev pub markWord : ℕ
+markWord = 1
+
 abbrev pub code : ℕ
 code = 1
 

@@ -55,14 +55,21 @@ unfoldable pub payloadAt : List ℕ → ℕ → ℕ → ℕ
 payloadAt bytes b i = wordAt bytes ((b + i / payloadWords) * blockWords + i % payloadWords)
 
 -- two code words per payload word
+abbrev pub codePayload : ℕ → ℕ
+codePayload words = (words + 1) / 2
+
 abbrev pub codeBlocks : List ℕ → ℕ
-codeBlocks bytes = blocksFor ((codeCount bytes + 1) / 2)
+codeBlocks bytes = blocksFor (codePayload (codeCount bytes))
 
 abbrev pub firstCode : ℕ
 firstCode = 1
 
 abbrev pub firstMemory : List ℕ → ℕ
 firstMemory bytes = firstCode + codeBlocks bytes
+
+-- the blocks of a job with so many code words and memory words given
+abbrev pub blocksNeeded : ℕ → ℕ → ℕ
+blocksNeeded code given = firstCode + blocksFor (codePayload code) + blocksFor given
 
 abbrev pub memoryBlocks : List ℕ → ℕ
 memoryBlocks bytes = blocksFor (givenCount bytes)
@@ -111,14 +118,20 @@ jobRead bytes =
     }
 
 -- the call that a job stands for, with the report that is lent to it
+abbrev pub callFor : JobRead → List ℕ → call.Call
+callFor j report = callOf (j .code) (j .intervals) (j .limit) report (j .first)
+
 abbrev pub callIn : List ℕ → List ℕ → call.Call
-callIn bytes report = let j = jobRead bytes in callOf (j .code) (j .intervals) (j .limit) report (j .first)
+callIn bytes report = callFor (jobRead bytes) report
 
 -- The questions.
 
 -- 9: 1 to 19 whole blocks
+abbrev pub mostBlocks : ℕ
+mostBlocks = 19
+
 unfoldable pub wholeBlocks : List ℕ → Bool
-wholeBlocks bytes = eqb (length bytes % blockBytes) 0 && (leb 1 (blockCount bytes) && leb (blockCount bytes) 19)
+wholeBlocks bytes = eqb (length bytes % blockBytes) 0 && (leb 1 (blockCount bytes) && leb (blockCount bytes) mostBlocks)
 
 -- 10: every check agrees (checksAgree); 1, 2, 3, 4, 6, 8 on the header
 unfoldable pub codeFits : List ℕ → Bool
@@ -164,7 +177,8 @@ unusedZero bytes =
 
 unfoldable pub wellFormed : List ℕ → Bool
 wellFormed bytes =
-    eqb (mark bytes) 1 && (eqb (blockCount bytes) (firstMemory bytes + memoryBlocks bytes) && unusedZero bytes)
+    eqb (mark bytes) header.markWord
+    && (eqb (blockCount bytes) (blocksNeeded (codeCount bytes) (givenCount bytes)) && unusedZero bytes)
 
 -- the questions, each under the refusal that answers its no; of a call's questions those on the header
 unfoldable pub headerAsks : List ℕ → Refusal → Bool
@@ -183,8 +197,11 @@ jobAsks bytes Check = checksAgree bytes
 jobAsks bytes (Call r) = headerAsks bytes r
 jobAsks bytes Form = wellFormed bytes
 
+abbrev pub headerQuestions : List Refusal
+headerQuestions = Code ∷ Inputs ∷ Order ∷ Limit ∷ Memory ∷ First ∷ []
+
 abbrev pub jobQuestions : List JobRefusal
-jobQuestions = Blocks ∷ Check ∷ Call Code ∷ Call Inputs ∷ Call Order ∷ Call Limit ∷ Call Memory ∷ Call First ∷ Form ∷ []
+jobQuestions = Blocks ∷ Check ∷ (map Call headerQuestions ++ (Form ∷ []))
 
 -- the first no decides
 unfoldable pub jobRefusalOf : List ℕ → Option JobRefusal

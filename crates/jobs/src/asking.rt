@@ -8,9 +8,13 @@ use crate::header::HIGHS;
 use crate::header::INPUT_COUNT;
 use crate::header::LOWS;
 use crate::header::MARK;
+use crate::header::MARK_WORD;
 use crate::header::REST;
 use crate::header::STEP_LIMIT;
 use crate::words::FIRST_CODE;
+use crate::words::blocks_for;
+use crate::words::blocks_needed;
+use crate::words::code_payload;
 use crate::words::code_word;
 use crate::words::interval_word;
 use crate::words::payload_word;
@@ -27,7 +31,7 @@ use riscu::plain::Machine;
 ghost use mathlib.Core.Path.{_≡_};
 ghost use Prim.Native.Nat.{_≤_, _<_};
 ghost use Rattle.blocks.specs.Record.{mostInputs};
-ghost use Rattle.jobs.specs.Job.{inputCount, blocksFor, wholeBlocks, codeFits, inputsFit, ordered, limitFits, memoryFits, firstFits, zeroWords, zeroHalves, unusedZero, wellFormed, jobRefusalOf};
+ghost use Rattle.jobs.specs.Job.{inputCount, wholeBlocks, codeFits, inputsFit, ordered, limitFits, memoryFits, firstFits, zeroWords, zeroHalves, unusedZero, wellFormed, jobRefusalOf};
 ghost use Rattle.jobs.specs.Reading.{jobRefusalIn, Whole, Sized};
 
 // A header, and 1,024 code words and 512 memory words at most.
@@ -124,14 +128,6 @@ fn zero_halves(bytes: &[u8], j: usize, e: usize) -> bool
     true
 }
 
-// As few blocks as hold the words.
-pub(crate) fn blocks_for(words: usize) -> usize
-    requires { ⌜ words < 4096 ⌝ }
-    ensures { λ r. ⌜ r ≡ blocksFor words ⌝ }
-{
-    (words + (PAYLOAD_WORDS - 1)) / PAYLOAD_WORDS
-}
-
 fn unused_zero(bytes: &[u8]) -> bool
     requires { ⌜ Sized (now bytes) ⌝ }
     ensures { λ r. ⌜ r ≡ unusedZero (now (bytes .entry)) ⌝ }
@@ -139,7 +135,7 @@ fn unused_zero(bytes: &[u8]) -> bool
     let n = word(bytes, CODE_COUNT) as usize;
     let inputs = word(bytes, INPUT_COUNT) as usize;
     let given = word(bytes, GIVEN_COUNT) as usize;
-    let code = blocks_for((n + 1) / 2);
+    let code = blocks_for(code_payload(n));
     let memory = blocks_for(given);
     let lows = zero_words(bytes, 0, LOWS + inputs, HIGHS);
     let highs = zero_words(bytes, 0, HIGHS + inputs, GIVEN_COUNT);
@@ -155,8 +151,8 @@ fn well_formed(bytes: &[u8]) -> bool
 {
     let n = word(bytes, CODE_COUNT) as usize;
     let given = word(bytes, GIVEN_COUNT) as usize;
-    let needed = FIRST_CODE + blocks_for((n + 1) / 2) + blocks_for(given);
-    (word(bytes, MARK) == 1) & ((bytes.len() / BLOCK_BYTES == needed) & unused_zero(bytes))
+    let needed = blocks_needed(n, given);
+    (word(bytes, MARK) == MARK_WORD) & ((bytes.len() / BLOCK_BYTES == needed) & unused_zero(bytes))
 }
 
 // The first question that is answered no.

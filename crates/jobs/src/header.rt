@@ -1,6 +1,9 @@
 // Document 01's places of the words in a job's header block.
 pub const MARK: usize = 0;
 
+// What it holds.
+pub const MARK_WORD: u64 = 1;
+
 pub const CODE_COUNT: usize = 1;
 
 pub const INPUT_COUNT: usize = 2;

@@ -7,9 +7,9 @@ ghost use mathlib.Core.Path.{_≡_};
 ghost use Rattle.jobs.specs.Job.{jobNumber};
 
 mod asking;
-mod header;
+pub mod header;
 pub mod reading;
-mod words;
+pub mod words;
 
 // Why a job is refused: not whole blocks, a check, a question of a call, a part out of its form.
 pub enum JobRefusal {

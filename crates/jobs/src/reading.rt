@@ -3,13 +3,14 @@ use crate::Counts;
 use crate::JobAnswer;
 use crate::JobQuestioned;
 use crate::asking::ask_job;
-use crate::asking::blocks_for;
 use crate::header::CODE_COUNT;
 use crate::header::FIRST_PATH;
 use crate::header::GIVEN_COUNT;
 use crate::header::INPUT_COUNT;
 use crate::header::STEP_LIMIT;
 use crate::words::FIRST_CODE;
+use crate::words::blocks_for;
+use crate::words::code_payload;
 use crate::words::code_word;
 use crate::words::interval_word;
 use crate::words::payload_word;
@@ -65,7 +66,7 @@ fn memory_in(bytes: &[u8]) -> [u64; Machine::MEMORY_WORDS]
     requires { ⌜ Sized (now bytes) ⌝ }
     ensures { λ r. ⌜ r ≡ memoryIn (now (bytes .entry)) ⌝ }
 {
-    let first = FIRST_CODE + blocks_for((word(bytes, CODE_COUNT) as usize + 1) / 2);
+    let first = FIRST_CODE + blocks_for(code_payload(word(bytes, CODE_COUNT) as usize));
     let n = word(bytes, GIVEN_COUNT) as usize;
     let mut words = [0u64; Machine::MEMORY_WORDS];
     let mut k: usize = 0;

@@ -1,4 +1,4 @@
-// The words of a job: of its header, of a part that begins with some block, and the halves that are code words.
+// The blocks of a job, and its words: of its header, of a part that begins with some block, and the halves that are code words.
 use crate::header::HIGHS;
 use crate::header::LOWS;
 use blocks::BLOCK_WORDS;
@@ -8,11 +8,35 @@ use blocks::words::word_at;
 ghost use mathlib.Core.Path.{_≡_};
 ghost use Prim.Native.Nat.{_<_};
 ghost use Rattle.blocks.specs.Block.{wordAt};
-ghost use Rattle.jobs.specs.Job.{payloadAt, codeAt, intervalAt};
+ghost use Rattle.jobs.specs.Job.{codePayload, blocksFor, blocksNeeded, payloadAt, codeAt, intervalAt};
 ghost use Rattle.jobs.specs.Reading.{Whole};
 
 // The block that the code begins with.
 pub const FIRST_CODE: usize = 1;
+
+// As few blocks as hold the words.
+pub fn blocks_for(words: usize) -> usize
+    requires { ⌜ words < 4096 ⌝ }
+    ensures { λ r. ⌜ r ≡ blocksFor words ⌝ }
+{
+    (words + (PAYLOAD_WORDS - 1)) / PAYLOAD_WORDS
+}
+
+// Payload words of so many code words: two in each.
+pub fn code_payload(words: usize) -> usize
+    requires { ⌜ words < 4096 ⌝ }
+    ensures { λ r. ⌜ r ≡ codePayload words ⌝ }
+{
+    (words + 1) / 2
+}
+
+// The blocks of a job with so many code words and memory words given.
+pub fn blocks_needed(code: usize, given: usize) -> usize
+    requires { ⌜ (code < 4096) × (given < 4096) ⌝ }
+    ensures { λ r. ⌜ r ≡ blocksNeeded code given ⌝ }
+{
+    FIRST_CODE + blocks_for(code_payload(code)) + blocks_for(given)
+}
 
 // Word k of whole blocks; 0 past the end.
 pub(crate) fn word(bytes: &[u8], k: usize) -> u64

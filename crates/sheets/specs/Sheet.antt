@@ -12,6 +12,7 @@ use Rattle.riscu.specs.Lent.{LentList}
 use Rattle.blocks.specs.Block.{wordAt}
 use Rattle.blocks.specs.Layout as layout
 use Rattle.blocks.specs.Record.{recordBytes}
+use Rattle.calls.specs.Border.{spaceNumber}
 use Rattle.calls.specs.Call.{firstNo}
 use Rattle.reports.specs.Readable.{recordsOf, readable, recordsNumber}
 use Rattle.sheets.specs.Line.{sheetLine, lineBytes}
@@ -80,7 +81,7 @@ sheetQuestions = Records ∷ Short ∷ []
 
 abbrev pub sheetNumber : SheetRefusal → ℕ
 sheetNumber Records = recordsNumber
-sheetNumber Short = 14
+sheetNumber Short = spaceNumber
 
 -- what a call answers, and what it leaves in the sheet
 pub record SheetLeft : Type 0 where

@@ -1,6 +1,7 @@
 // A sheet for the wall: document 02's call that prints a report on lines of 72 columns.
 // `asking` has the sheet's length and the questions 12 and 14, `lines` writes the lines from the records' words, `sheet` has the call.
 // What a reader must believe stands in specs/; a call that is turned away writes nothing.
+use calls::SPACE_NUMBER;
 use reports::RECORDS_NUMBER;
 ghost use mathlib.Core.Path.{_≡_};
 ghost use Rattle.sheets.specs.Sheet.{sheetNumber, sheetAnswerNumber};
@@ -27,7 +28,7 @@ fn sheet_number(r: SheetRefusal) -> u64
 {
     match r {
         SheetRefusal::Records => RECORDS_NUMBER,
-        SheetRefusal::Short => 14,
+        SheetRefusal::Short => SPACE_NUMBER,
     }
 }
 

@@ -7,7 +7,8 @@ use denote.Ref.{now}
 use lib.ListN.{length, getD}
 use Rattle.riscu.specs.Word.{maxWord}
 use Rattle.calls.specs.Call.{boxOf}
-use Rattle.counting.proofs.Products.{Multiplied, none-multiplied, all-multiplied, in-order, one-multiplied, too-large, small-enough, size-fits, pairs-length, pair-is}
+use Rattle.calls.proofs.Pairs.{pairs-length, pair-is}
+use Rattle.counting.proofs.Products.{Multiplied, none-multiplied, all-multiplied, in-order, one-multiplied, too-large, small-enough, size-fits}
 use Rattle.counting.proofs.sizes.box_size.Statement.{statement}
 use Rattle.counting.proofs.sizes.box_size.Tie as tie
 

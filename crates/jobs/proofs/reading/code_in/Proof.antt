@@ -11,21 +11,21 @@ use Rattle.jobs.proofs.reading.code_in.Statement.{statement}
 use Rattle.jobs.proofs.reading.code_in.Tie as tie
 
 abbrev Inv-loop : tie.InvT-loop
-Inv-loop bytes n words₀ k₀ words k = Copying (codeAt bytes) codeWords (codeCount bytes) words₀ n words k
+Inv-loop bytes n words₀ k₀ words k = Copying 0 (codeAt bytes) codeWords (codeCount bytes) words₀ n words k
 
 abbrev μ-loop : tie.MeasureT-loop
 μ-loop bytes n words₀ k₀ words k = n - k
 
 loop-holds : tie.Need-loop-holds Inv-loop μ-loop
-loop-holds c = copy-begin _ _ _ _ _ (c .word .ensures) (c .before .before .pre .code)
+loop-holds c = copy-begin 0 _ _ _ _ _ (c .word .ensures) (c .before .before .pre .code)
 
 loop-again : tie.Need-loop-again Inv-loop μ-loop
-loop-again c = copy-turn _ _ _ _ _ _ _ (c .before .before .loop .inv) (omega arith) (c .code-word .ensures)
+loop-again c = copy-turn 0 _ _ _ _ _ _ _ (c .before .before .loop .inv) (omega arith) (omega arith) (c .code-word .ensures)
 
 returns : tie.Need-returns Inv-loop μ-loop
 unfolding codeIn
 returns c =
-    copy-done _ _ _ _ _ _ _ (c .before .loop .inv) (omega arith)
+    copy-done 0 _ _ _ _ _ _ _ (c .before .loop .inv) (omega arith)
     ∙ copied-over (codeAt (now (c .before .before .before .before .args .bytes))) _ _ (omega arith)
 
 pub code-in-spec : {M : Type 1} → statement M

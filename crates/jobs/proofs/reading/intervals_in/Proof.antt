@@ -11,7 +11,7 @@ use Rattle.jobs.proofs.reading.intervals_in.Statement.{statement}
 use Rattle.jobs.proofs.reading.intervals_in.Tie as tie
 
 abbrev Inv-loop : tie.InvT-loop
-Inv-loop bytes n words₀ k₀ words k = Copying (intervalAt bytes) (2 * mostInputs) (2 * inputCount bytes) words₀ n words k
+Inv-loop bytes n words₀ k₀ words k = Copying 0 (intervalAt bytes) (2 * mostInputs) (2 * inputCount bytes) words₀ n words k
 
 abbrev μ-loop : tie.MeasureT-loop
 μ-loop bytes n words₀ k₀ words k = n - k
@@ -21,15 +21,15 @@ mul-n c = omega (arith, c .input-count .ensures, c .before .before .pre .inputs)
 
 loop-holds : tie.Need-loop-holds Inv-loop μ-loop
 loop-holds c =
-    copy-begin _ _ _ _ _ (ap (λ (x : ℕ). 2 * x) (c .input-count .ensures)) (omega (arith, c .before .before .pre .inputs))
+    copy-begin 0 _ _ _ _ _ (ap (λ (x : ℕ). 2 * x) (c .input-count .ensures)) (omega (arith, c .before .before .pre .inputs))
 
 loop-again : tie.Need-loop-again Inv-loop μ-loop
-loop-again c = copy-turn _ _ _ _ _ _ _ (c .before .before .loop .inv) (omega arith) (c .interval-word .ensures)
+loop-again c = copy-turn 0 _ _ _ _ _ _ _ (c .before .before .loop .inv) (omega arith) (omega arith) (c .interval-word .ensures)
 
 returns : tie.Need-returns Inv-loop μ-loop
 unfolding intervalsIn
 returns c =
-    copy-done _ _ _ _ _ _ _ (c .before .loop .inv) (omega arith)
+    copy-done 0 _ _ _ _ _ _ _ (c .before .loop .inv) (omega arith)
     ∙ copied-over (intervalAt (now (c .before .before .before .before .args .bytes))) _ _ (omega arith)
 
 pub intervals-in-spec : {M : Type 1} → statement M
