@@ -35,6 +35,11 @@ use Rattle.serving.specs.Server.{serverQuestions, serverAsks}
 use Rattle.serving.specs.declared.Served.{Served}
 use Rattle.serving.proofs.Demands.{server-refused, server-listed}
 use Rattle.serving.proofs.Numbers.{outcome-numbers}
+use Rattle.writing.specs.Write.{WriteCall, writeAsks, writeQuestions, writeNumber, jobWritten, writeOutcome}
+use Rattle.writing.specs.declared.WriteRefusal.{WriteRefusal}
+use Rattle.writing.specs.declared.WriteAnswer.the-variants.{Written}
+use Rattle.writing.proofs.Numbers.{write-numbers}
+use Rattle.writing.proofs.Promises.{writes-job}
 
 -- of `mirokefa_explore`
 module _ (memory table : List ℕ) (c : Call) where
@@ -85,3 +90,17 @@ module _ (n : ℕ) (report : List ℕ) (passes : readable n report ≡ true) (le
       yes : (q : SheetRefusal) → sheetAsks (sheetCallOf n report sheet) q ≡ true
       yes Records = unfold sheetAsks in passes
       yes Short = unfold sheetAsks in le-leb (sheetLength n (length report)) (length sheet) (omega (arith, room, bytes-seen, text-length n report))
+
+-- of `mirokefa_write`
+module _ (c : WriteCall) where
+  pub write-accepted : (writeOutcome (jobWritten c .answer) .refused ≡ 0) ↔ ((q : WriteRefusal) → q ∈ writeQuestions → writeAsks c q ≡ true)
+  write-accepted = (
+    λ e. writes-job c .accepted .0 (rw (← writes-job c .bytes _ (seen e)) (seen e)),
+    λ h. write-numbers (jobWritten c .answer) .accepted .1 (rw (writes-job c .accepted .1 h)),
+  )
+    where
+      seen : writeOutcome (jobWritten c .answer) .refused ≡ 0 → jobWritten c .answer ≡ Written (writeOutcome (jobWritten c .answer) .bytes)
+      seen e = write-numbers (jobWritten c .answer) .accepted .0 e
+
+  pub write-refused : (r : WriteRefusal) → (writeOutcome (jobWritten c .answer) .refused ≡ writeNumber r) ↔ FirstNo (writeAsks c) writeQuestions r
+  write-refused r = Iff·trans (write-numbers (jobWritten c .answer) .refused r) (writes-job c .refused r)

@@ -1,5 +1,5 @@
 // The functions for C: the exploration of a lent job, the server's call on job blocks, rows placed in a report, a report printed and the
-// length of that, a job's choices counted, as `extern "C"` with the answer in numbers.
+// length of that, a job's choices counted, a job written, as `extern "C"` with the answer in numbers.
 // Each slice comes as a pointer and its length in elements.
 // The archive of this crate, libmirokefa_c.a, is what include/mirokefa.h declares.
 use calls::Outcome;
@@ -14,12 +14,16 @@ use serving::serve;
 use sheets::asking::sheet_bytes;
 use sheets::sheet::print_sheet;
 use sheets::sheet_answer_number;
+use writing::WriteOutcome;
+use writing::write_outcome;
+use writing::writing::write_job;
 ghost use mathlib.Core.Path.{_≡_};
 ghost use Rattle.calls.specs.Border.{replyOf, callLent, calledOn};
 ghost use Rattle.counting.specs.Count.{counted};
 ghost use Rattle.reports.specs.Placing.{answerNumber, placedOn};
 ghost use Rattle.serving.specs.Served.{outcomeOf, servedOn};
 ghost use Rattle.sheets.specs.Sheet.{sheetBytes, sheetAnswerNumber, printedOn};
+ghost use Rattle.writing.specs.Write.{valuesLent, writeOutcome, jobWrittenOn};
 
 // Explores a job and writes a page of its paths, or refuses the call.
 #[no_mangle]
@@ -89,4 +93,21 @@ pub extern "C" fn mirokefa_count(job: &[u8]) -> Counted
     ensures { λ r. ⌜ r ≡ counted (now (job .entry)) ⌝ }
 {
     count(job)
+}
+
+// Writes a job from its values.
+#[no_mangle]
+pub extern "C" fn mirokefa_write(
+    code: &[u32],
+    memory: &[u64],
+    intervals: &[u64],
+    limit: u64,
+    first: u64,
+    job: &mut [u8],
+) -> WriteOutcome
+    ensures answer { λ r. ⌜ r ≡ writeOutcome (jobWrittenOn (valuesLent code memory intervals limit first) job .answer) ⌝ }
+    ensures bytes { λ r. ⌜ now (job .exit) ≡ jobWrittenOn (valuesLent code memory intervals limit first) job .space ⌝ }
+{
+    let a = write_job(code, memory, intervals, limit, first, job);
+    write_outcome(a)
 }
