@@ -1,5 +1,6 @@
 //! What the library costs: the numbers of docs/BENCHMARKS.md, as markdown tables.
 
+#[allow(dead_code)] // jobs are written by the tests
 #[path = "../tool/library.rs"]
 mod library;
 
@@ -9,13 +10,13 @@ use formats::instruction::{bits, immediate, Form};
 use formats::job::Job;
 use formats::limits::{
     path_bytes, BLOCK_BYTES, ENTRY_WORDS, LINE_BYTES, MEMORY_WORDS, MOST_CODE_WORDS,
-    MOST_COUNTED_PATHS, MOST_INPUTS, MOST_ROWS, MOST_STEPS, PAYLOAD_WORDS, REGISTERS,
-    USUAL_PAGE_PATHS, USUAL_TABLE_WORDS,
+    MOST_COUNTED_PATHS, MOST_INPUTS, MOST_JOB_BYTES, MOST_ROWS, MOST_STEPS, PATH_NUMBERS,
+    PAYLOAD_WORDS, REGISTERS, USUAL_PAGE_PATHS, USUAL_TABLE_WORDS,
 };
 use formats::numbers::{EXITED, KIND_PLACES};
 use formats::random::Random;
 use formats::report::read_pages;
-use library::{Counts, Reply};
+use library::{Counts, Reply, Written};
 use std::fmt::Write;
 use std::hint::black_box;
 use std::time::Instant;
@@ -91,10 +92,17 @@ impl Call {
         (vec![0; self.entries * ENTRY_WORDS], vec![0; self.paths * size])
     }
 
-    /// The job with its memory words, up to the last that is not 0.
     fn blocks(&self) -> Vec<u8> {
-        let given = self.memory.iter().rposition(|&word| word != 0).map_or(0, |last| last + 1);
-        Job { memory: self.memory[..given].to_vec(), ..self.job.clone() }.to_bytes()
+        let mut blocks = vec![0; MOST_JOB_BYTES];
+        let written = self.write(&mut blocks);
+        assert_eq!(written.refused, 0);
+        blocks.truncate(written.bytes as usize);
+        blocks
+    }
+
+    fn write(&self, blocks: &mut [u8]) -> Written {
+        let Job { code, limit, first, .. } = &self.job;
+        library::write(code, &self.memory, &self.intervals, *limit, *first, blocks)
     }
 
     fn make(&self, table: &mut [u64], report: &mut [u8]) -> Reply {
@@ -532,23 +540,9 @@ fn write_digits(field: &mut [u8], number: u64) {
 // ---------------------------------------------------------------------------------------------
 // Choices counted by a plain loop over the report of the server's call, with the same questions.
 
-extern "C" {
-    fn mirokefa_serve(
-        job: *const u8,
-        job_bytes: usize,
-        report: *mut u8,
-        report_bytes: usize,
-    ) -> Reply;
-}
-
-fn serve(job: &[u8], report: &mut [u8]) -> Reply {
-    // SAFETY: each pointer comes with the length of its own slice, and they do not overlap
-    unsafe { mirokefa_serve(job.as_ptr(), job.len(), report.as_mut_ptr(), report.len()) }
-}
-
 /// The job names path 0 as its first, and the report has room for as many paths as are counted.
 fn count_plain(job: &[u8], report: &mut [u8]) -> Counts {
-    let reply = serve(job, report);
+    let reply = library::serve(job, report);
     if reply.refused != 0 {
         return no_counts(reply.refused);
     }
@@ -596,6 +590,74 @@ fn add_value(counts: &mut Counts, value: u64, choices: u64) {
             counts.used += 1;
         }
     }
+}
+
+// ---------------------------------------------------------------------------------------------
+// Job blocks by a plain loop, with the same questions.
+
+fn write_plain(call: &Call, blocks: &mut [u8]) -> Written {
+    let (code, memory) = (&call.job.code, &call.memory);
+    let given = memory.iter().rposition(|&word| word != 0).map_or(0, |last| last + 1);
+    let count = 1 + code.len().div_ceil(2 * PAYLOAD_WORDS) + given.div_ceil(PAYLOAD_WORDS);
+    let bytes = count * BLOCK_BYTES;
+    if let Some(refused) = write_refusal(call, blocks.len() >= bytes) {
+        return Written { refused, bytes: 0 };
+    }
+    let (header, rest) = blocks.split_at_mut(BLOCK_BYTES);
+    put_block(header, header_of(call, given).into_iter());
+    let mut places = rest.chunks_exact_mut(BLOCK_BYTES);
+    for (words, block) in code.chunks(2 * PAYLOAD_WORDS).zip(&mut places) {
+        put_block(block, words.chunks(2).map(pair));
+    }
+    for (words, block) in memory[..given].chunks(PAYLOAD_WORDS).zip(places) {
+        put_block(block, words.iter().copied());
+    }
+    Written { refused: 0, bytes: bytes as u64 }
+}
+
+fn write_refusal(call: &Call, fits: bool) -> Option<u64> {
+    let Call { job, memory, intervals, .. } = call;
+    let pairs = intervals.chunks_exact(2);
+    let questions = [
+        (1, (1..=MOST_CODE_WORDS).contains(&job.code.len())),
+        (2, pairs.remainder().is_empty() && pairs.len() <= MOST_INPUTS),
+        (3, pairs.clone().all(|ends| ends[0] <= ends[1])),
+        (4, (1..=MOST_STEPS).contains(&job.limit)),
+        (6, memory.len() == MEMORY_WORDS),
+        (8, job.first < PATH_NUMBERS),
+        (14, fits),
+    ];
+    questions.iter().find(|(_, yes)| !yes).map(|&(number, _)| number)
+}
+
+fn header_of(call: &Call, given: usize) -> [u64; PAYLOAD_WORDS] {
+    let Call { job, intervals, .. } = call;
+    let (words, inputs) = (job.code.len() as u64, (intervals.len() / 2) as u64);
+    let mut header = [0; PAYLOAD_WORDS];
+    header[..LOWS].copy_from_slice(&[1, words, inputs, job.limit, job.first]);
+    for (input, ends) in intervals.chunks_exact(2).enumerate() {
+        (header[LOWS + input], header[HIGHS + input]) = (ends[0], ends[1]);
+    }
+    // the place of the memory words given
+    header[21] = given as u64;
+    header
+}
+
+fn pair(words: &[u32]) -> u64 {
+    let high = words.get(1).map_or(0, |&word| word as u64);
+    high << 32 | words[0] as u64
+}
+
+/// These words, 0 where there are none, and their check, which is folded while they are written.
+fn put_block(block: &mut [u8], mut words: impl Iterator<Item = u64>) {
+    let (payload, check) = block.split_at_mut(8 * PAYLOAD_WORDS);
+    let mut sum: u64 = 1;
+    for place in payload.chunks_exact_mut(8) {
+        let word = words.next().unwrap_or(0);
+        place.copy_from_slice(&word.to_le_bytes());
+        sum = sum.rotate_left(1).wrapping_add(word);
+    }
+    check.copy_from_slice(&sum.to_le_bytes());
 }
 
 // ---------------------------------------------------------------------------------------------
@@ -894,14 +956,14 @@ fn print_counted(name: &str, call: &Call, repeats: u32) {
     let mut report = vec![0; MOST_COUNTED_PATHS * size];
     let (counts, plain) = (library::count(&job), count_plain(&job, &mut report));
     assert!(counts.refused == 0 && counts == plain, "the two give the same counts");
-    let paths = serve(&job, &mut report).count;
+    let paths = library::serve(&job, &mut report).count;
     let page = &report[..paths as usize * size];
     let records = read_pages(page, call.job.intervals.len()).expect("a page of the library");
     let steps: u64 = records.iter().map(|record| record.steps).sum();
     let mut times = [(); 3].map(|()| Vec::new());
     for _ in 0..RUNS {
         times[0].push(run_ns(repeats, || {
-            black_box(serve(black_box(&job), &mut report));
+            black_box(library::serve(black_box(&job), &mut report));
         }));
         times[1].push(run_ns(repeats, || {
             black_box(count_plain(black_box(&job), &mut report));
@@ -916,6 +978,44 @@ fn print_counted(name: &str, call: &Call, repeats: u32) {
     println!("| {name} | {paths} | {steps} | {} | {times} | {ratios} |", counts.used);
 }
 
+/// So many words of each kind; a writer looks at none of them but for the zeros at the end of memory.
+fn job_of(code_words: usize, memory_words: usize, inputs: usize) -> Call {
+    let mut call = call(vec![ecall(); code_words], 3, MAX, inputs);
+    call.memory[..memory_words].fill(MAX);
+    call
+}
+
+fn print_writing() {
+    println!("\n## Writing jobs\n");
+    println!("| job | blocks | plain loop, ns | library, ns | ratio |");
+    println!("|---|---|---|---|---|");
+    print_written("Job A", &job_a(), 2_000);
+    print_written("1 code word, memory all 0", &job_of(1, 0, 0), 2_000);
+    print_written("126 code words, 63 memory words, 2 inputs", &job_of(126, 63, 2), 2_000);
+    let largest = job_of(MOST_CODE_WORDS, MEMORY_WORDS, MOST_INPUTS);
+    print_written("1,024 code words, 512 memory words, 8 inputs", &largest, 500);
+}
+
+/// The two are timed in turn, as for the counts.
+fn print_written(name: &str, call: &Call, repeats: u32) {
+    let [mut blocks, mut plain_blocks] = [(); 2].map(|()| vec![0; MOST_JOB_BYTES]);
+    let (written, plain) = (call.write(&mut blocks), write_plain(call, &mut plain_blocks));
+    assert!(written.refused == 0 && written == plain, "{written:?}, {plain:?}");
+    assert_eq!(blocks, plain_blocks, "the two write the same job");
+    let mut times = [(); 2].map(|()| Vec::new());
+    for _ in 0..RUNS {
+        times[0].push(run_ns(repeats, || {
+            black_box(write_plain(black_box(call), black_box(&mut plain_blocks)));
+        }));
+        times[1].push(run_ns(repeats, || {
+            black_box(black_box(call).write(black_box(&mut blocks)));
+        }));
+    }
+    let [plain, ns] = times.map(median);
+    let count = written.bytes as usize / BLOCK_BYTES;
+    println!("| {name} | {count} | {plain:.0} | {ns:.0} | {:.2} |", ns / plain);
+}
+
 fn main() {
     print_against_plain();
     print_scaling();
@@ -926,4 +1026,5 @@ fn main() {
     print_placing();
     print_sheets();
     print_counting();
+    print_writing();
 }

@@ -10,7 +10,7 @@ mod programs;
 mod runs;
 
 use formats::assembler::{add, addi, beq, closing, ecall, jal, job_a, ld, read, sltu};
-use formats::blocks::{payload, to_bytes, word, Interval, HIGHS, LOWS};
+use formats::blocks::{to_bytes, word, Interval, HIGHS, LOWS};
 use formats::job::{self, Job};
 use formats::limits::{
     BLOCK_BYTES, BLOCK_WORDS, ENTRY_WORDS, MEMORY_WORDS, MOST_BLOCKS, MOST_CODE_WORDS,
@@ -24,8 +24,8 @@ use oracle::{
     Path, BAD_ADDRESS, BAD_BLOCKS, BAD_CALL, BAD_CHECK, BAD_FORM, BAD_PC, BAD_WORD, EXITED,
     MOST_TRIED, NOT_FOLLOWED, STEP_LIMIT, TOO_MANY_CHOICES, TOO_MANY_PATHS, TRACE_FULL,
 };
-use programs::{input_count, large_box, memory_for, program, small_box, CONSTANT_WORDS};
-use runs::{flip, with_margins, Seen, Test, FILL, MARGIN};
+use programs::{input_count, large_box, random_job, small_box};
+use runs::{flip, with_margins, with_word, Seen, Test, FILL, MARGIN};
 use std::collections::BTreeSet;
 use std::fmt;
 
@@ -230,15 +230,6 @@ fn come_back(exits: &[Option<u64>]) -> bool {
 
 // ---------------------------------------------------------------------------------------------
 // Random programs.
-
-fn random_job(random: &mut Random, intervals: Vec<Interval>) -> Job {
-    let (short, near) = (1 + random.below(60) as u64, random.below(6) as u64);
-    let mut memory = memory_for(random, &intervals);
-    memory.truncate(random.pick(&[CONSTANT_WORDS.end, 100, MEMORY_WORDS]));
-    let code = program(random, intervals.len());
-    let limit = random.pick(&[short, 100, 200, 400]);
-    Job { code, intervals, limit, first: random.pick(&[0, near, PATH_NUMBERS - 1]), memory }
-}
 
 /// A box of fewer than 2^64 choices, often of nearly as many; one input has at least so many
 /// values.
@@ -602,16 +593,6 @@ const PATHS: usize = 10;
 /// The inputs of the jobs that get a set of noes.
 const FIRST: Interval = (0, 999);
 const SECOND: Interval = (3, 9);
-
-/// The job with another word, and a right check.
-fn with_word(job: &[u8], place: usize, value: u64) -> Vec<u8> {
-    let block = place / BLOCK_WORDS * BLOCK_BYTES..(place / BLOCK_WORDS + 1) * BLOCK_BYTES;
-    let mut words = payload(&job[block.clone()]).expect("a block of a job");
-    words[place % BLOCK_WORDS] = value;
-    let mut changed = job.to_vec();
-    changed[block].copy_from_slice(&to_bytes(&words));
-    changed
-}
 
 /// One of two jobs, of 64 and of 65 paths, with the noes of a set; bit k is for question k.
 fn with_noes(jobs: &[Vec<u8>; 2], noes: usize, cause: usize) -> Vec<u8> {

@@ -1,26 +1,13 @@
-/* What the callers that lend a job share: sizes, a requirement, and a job lent wrongly. A caller defines CALLER, its name in messages, before
- * it includes this. */
+/* What the callers that lend a job share: the questions on it, and a job lent wrongly. A caller defines CALLER, its name in messages, before it
+ * includes this. */
 
 #ifndef JOB_LENDING_H
 #define JOB_LENDING_H
 
-#include <stdbool.h>
-#include <stdlib.h>
-#include <string.h>
-
-#include "../examples/report.h"
-#include "mirokefa.h"
+#include "job_blocks.h"
 
 /* Jobs that are too long fit too. */
-enum {
-    BLOCK_BYTES = MIROKEFA_BLOCK_BYTES,
-    MOST_BYTES = MIROKEFA_MOST_BLOCKS * BLOCK_BYTES,
-    ROOM = 2 * MOST_BYTES,
-    NOISE_ROUNDS = 400
-};
-
-/* Document 01's places of the words in a job's header. */
-enum { MARK = 0, CODE_COUNT = 1, INPUT_COUNT = 2, STEP_LIMIT = 3, FIRST_PATH = 4, FIRST_LOW = 5, FIRST_HIGH = 13, MEMORY_GIVEN = 21 };
+enum { ROOM = 2 * MOST_BYTES, NOISE_ROUNDS = 400 };
 
 /* The questions on a job in document 01's order; those that a caller adds come behind them. */
 enum { BLOCKS, CHECK, CODE, INPUTS, ORDER, LIMIT, MEMORY, FIRST, FORM, JOB_QUESTIONS };
@@ -49,27 +36,8 @@ static const struct question questions[JOB_QUESTIONS] = {
 static uint8_t job[ROOM];
 static uint8_t changed[ROOM];
 
-static void require(bool holds, const char *what, size_t at)
-{
-    if (!holds) {
-        fprintf(stderr, CALLER ": %s, at %zu\n", what, at);
-        exit(1);
-    }
-}
-
 /* The caller's own: it lends so many bytes, all else rightly, and requires that they are refused with a number. */
 static void refuses_job(const uint8_t *bytes, size_t length, uint64_t number, const char *what, size_t at);
-
-static void put_word(uint8_t *blocks, size_t place, uint64_t value)
-{
-    for (size_t byte = 0; byte < 8; byte++)
-        blocks[8 * place + byte] = (uint8_t)(value >> 8 * byte);
-}
-
-static void put_check(uint8_t *block)
-{
-    put_word(block, MIROKEFA_BLOCK_CHECK, check_of(block));
-}
 
 /* Changes the job to a set of noes; bit k is the no of question k, which has two causes. Returns its length. */
 static size_t spoil_job(unsigned noes, unsigned cause, size_t length)

@@ -1,4 +1,4 @@
-//! A brute-force oracle for the interval path explorer, after document 01 and Nos. 1 to 7 of
+//! A brute-force oracle for the interval path explorer, after document 01 and Nos. 1 to 8 of
 //! document 02.
 //!
 //! A group holds every choice of its box, each with a plain machine of its own; a value is fixed if
@@ -7,8 +7,8 @@
 //! choices are counted in larger boxes, a group holds the two at its corners alone.
 //!
 //! It is the other side of every comparison, a reading of the papers by itself: it has a decoder, a
-//! machine, numbers, a writer and readers of records and jobs of its own, and shares none with tool
-//! or crates.
+//! machine, numbers, and writers and readers of records and jobs of its own, and shares none with
+//! tool or crates.
 
 #![allow(dead_code)] // a program that includes this module uses a part of it
 
@@ -1110,11 +1110,11 @@ pub fn read_job(bytes: &[u8]) -> Result<Job, u64> {
 /// The questions at the door that the header answers; table and report are the program's own.
 fn header_refusal(header: &[u64]) -> Option<u64> {
     let intervals = header_intervals(header);
-    let flat: Vec<u64> = intervals.iter().flat_map(|&(low, high)| [low, high]).collect();
     // up to 512 words may be given, and the rest are 0
     let memory_words = MEMORY_WORDS.max(header[21] as usize);
     let (code_words, report_bytes) = (header[1] as usize, path_bytes(intervals.len()));
     let (limit, first) = (header[3], header[4]);
+    let flat = flat(&intervals);
     door(code_words, &flat, limit, PROGRAM_TABLE_WORDS, memory_words, report_bytes, first)
 }
 
@@ -1122,6 +1122,11 @@ fn header_refusal(header: &[u64]) -> Option<u64> {
 fn header_intervals(header: &[u64]) -> Vec<Interval> {
     let inputs = header[2].min(9) as usize;
     (0..inputs).map(|input| (header[5 + input], header[13 + input])).collect()
+}
+
+/// Low, high, low, high, as a call lends them.
+fn flat(intervals: &[Interval]) -> Vec<u64> {
+    intervals.iter().flat_map(|&(low, high)| [low, high]).collect()
 }
 
 /// What the blocks hold after a header that passed; none if their form is another.
@@ -1242,4 +1247,74 @@ pub fn count_boxes(paths: &[Path]) -> Counts {
         *counts.place(path.kind, (low == high).then_some(low)) += choices_in(&path.boxes);
     }
     counts
+}
+
+// ---------------------------------------------------------------------------------------------
+// Jobs written: No. 8 of document 02.
+
+pub const SHORT_SPACE: u64 = 14;
+
+/// What a job is written from; what the reader gets back has 512 memory words and whole pairs.
+#[derive(Clone, Debug, PartialEq, Eq, PartialOrd, Ord)]
+pub struct Values {
+    pub code: Vec<u32>,
+    pub memory: Vec<u64>,
+    pub intervals: Vec<u64>,
+    pub limit: u64,
+    pub first: u64,
+}
+
+/// Writes the job at the start of the space; 0 and its bytes, or the number of the refusal and 0.
+pub fn write_job(values: &Values, space: &mut [u8]) -> (u64, u64) {
+    if let Some(number) = values_refusal(values) {
+        return (number, 0);
+    }
+    let job = job_bytes(values);
+    if space.len() < job.len() {
+        return (SHORT_SPACE, 0);
+    }
+    space[..job.len()].copy_from_slice(&job);
+    (0, job.len() as u64)
+}
+
+/// The reader's questions on the values, in its order; table and report are the program's own.
+fn values_refusal(values: &Values) -> Option<u64> {
+    let Values { code, memory, intervals, limit, first } = values;
+    let (table_words, report_bytes) = (PROGRAM_TABLE_WORDS, path_bytes(intervals.len() / 2));
+    door(code.len(), intervals, *limit, table_words, memory.len(), report_bytes, *first)
+}
+
+/// The header, the code, and the memory words up to the last that is not 0.
+fn job_bytes(values: &Values) -> Vec<u8> {
+    let Values { code, memory, intervals, limit, first } = values;
+    let given = memory.iter().rposition(|&word| word != 0).map_or(0, |last| last + 1);
+    let (code_words, inputs) = (code.len() as u64, intervals.len() as u64 / 2);
+    let mut header = [0; PAYLOAD_WORDS];
+    header[..5].copy_from_slice(&[1, code_words, inputs, *limit, *first]);
+    for (input, pair) in intervals.chunks(2).enumerate() {
+        (header[5 + input], header[13 + input]) = (pair[0], pair[1]);
+    }
+    header[21] = given as u64;
+    // two words to a payload word, the low half first
+    let pair = |words: &[u32]| words[0] as u64 + ((*words.get(1).unwrap_or(&0) as u64) << 32);
+    let code: Vec<u64> = code.chunks(2).map(pair).collect();
+    [&header[..], &code, &memory[..given]].map(blocks_of).concat()
+}
+
+/// As few blocks as hold these words; unused ones are 0.
+fn blocks_of(words: &[u64]) -> Vec<u8> {
+    let block = |payload: &[u64]| {
+        let mut block = [0; BLOCK_WORDS];
+        block[..payload.len()].copy_from_slice(payload);
+        with_check(block)
+    };
+    words.chunks(PAYLOAD_WORDS).flat_map(block).flat_map(u64::to_le_bytes).collect()
+}
+
+/// What the reader gets from a job, or the number of the refusal: jobs that give the same mean the
+/// same.
+pub fn read_values(bytes: &[u8]) -> Result<Values, u64> {
+    let Job { code, mut memory, limit, intervals, .. } = read_job(bytes)?;
+    memory.resize(MEMORY_WORDS, 0);
+    Ok(Values { code, memory, intervals: flat(&intervals), limit, first: words(bytes)[4] })
 }

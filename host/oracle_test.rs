@@ -1,4 +1,4 @@
-//! Tests of the oracle itself: document 01's rules on trial, Nos. 1, 2, 3, 5, 6 and 7 of document
+//! Tests of the oracle itself: document 01's rules on trial, Nos. 1, 2, 3, 5, 6, 7 and 8 of document
 //! 02, and random jobs against runs of its plain machine.
 
 mod listing_check;
@@ -7,7 +7,7 @@ mod oracle;
 mod programs;
 
 use formats::assembler::*;
-use formats::blocks::to_bytes;
+use formats::blocks::{to_bytes, word};
 use formats::limits::{path_bytes, ENTRY_WORDS, MEMORY_WORDS, PAYLOAD_WORDS, USUAL_TABLE_WORDS};
 use formats::numbers::{kind_occurs, reason_occurs, KINDS, REASONS};
 use formats::random::Random;
@@ -1304,4 +1304,213 @@ fn the_first_paths_of_a_listing() {
     let paths = listing_by_corners(&job, usize::MAX);
     assert_eq!((paths.len(), &paths), (100, &listing(&job)));
     assert_eq!(listing_by_corners(&job, 65), paths[..65]);
+}
+
+/// Values of a job with these words of code and memory, and the inputs 0..255 and 3..7.
+fn values(code: &[u32], memory: &[u64]) -> Values {
+    let (code, intervals) = (code.to_vec(), vec![0, 255, 3, 7]);
+    let memory = [memory, &MEMORY[memory.len()..]].concat();
+    Values { code, memory, intervals, limit: 100, first: 0 }
+}
+
+/// The answer, and what a space of so many bytes, which came with 0xEE in each, then holds.
+fn written(values: &Values, space_bytes: usize) -> ((u64, u64), Vec<u8>) {
+    let mut space = vec![0xEE; space_bytes];
+    (write_job(values, &mut space), space)
+}
+
+/// The words of a job that is written to a space of its length.
+fn job_words(values: &Values, blocks: usize) -> Vec<u64> {
+    let (answer, space) = written(values, 512 * blocks);
+    assert_eq!(answer, (0, 512 * blocks as u64));
+    space.chunks(8).map(word).collect()
+}
+
+/// A call that writes nothing.
+fn assert_refused(values: &Values, space_bytes: usize, number: u64) {
+    assert_eq!(written(values, space_bytes), ((number, 0), vec![0xEE; space_bytes]));
+}
+
+#[test]
+fn job_a_written() {
+    let (code, memory) = (job_a().code, MEMORY.to_vec());
+    let values = Values { code, memory, intervals: vec![0, 255], limit: 100, first: 0 };
+    let mut expected = [0; 128];
+    expected[..4].copy_from_slice(&[1, 8, 1, 100]);
+    (expected[13], expected[63]) = (255, 0xF1FE000000000004);
+    let pairs = [0x0080061303F00893, 0x0000328300000073, 0x0062B53300A00313, 0x0000007305D00893];
+    expected[64..68].copy_from_slice(&pairs);
+    expected[127] = 0x6826332BE93482A9;
+    assert_eq!(job_words(&values, 2), expected);
+    // the low byte of a word first
+    let (_, space) = written(&values, 1024);
+    assert_eq!(space[512..520], [0x93, 0x08, 0xF0, 0x03, 0x13, 0x06, 0x80, 0x00]);
+    assert_eq!(space, blocks(&job_a().code, &[(0, 255)], 100, 0));
+}
+
+#[test]
+fn every_word_of_a_job_has_its_place() {
+    let intervals = (0..8).flat_map(|input| [10 + input, 20 + input]).collect();
+    let memory = [&[MAX; 3][..], &[0; 62], &[7], &[0; 446]].concat();
+    let code = vec![0x11111111, 0x22222222, 0xFFFFFFFF];
+    let values = Values { code, memory, intervals, limit: 65_536, first: 0xFFFF_FFFF };
+    let words = job_words(&values, 4);
+    assert_eq!(words[..5], [1, 3, 8, 65_536, 0xFFFF_FFFF]);
+    assert_eq!(words[5..13], [10, 11, 12, 13, 14, 15, 16, 17]);
+    assert_eq!(words[13..21], [20, 21, 22, 23, 24, 25, 26, 27]);
+    assert_eq!((words[21], &words[22..63]), (66, &[0; 41][..]));
+    assert_eq!(words[63], 0xC808100004000801);
+    // the last word of code has a half of its own
+    assert_eq!(words[64..66], [0x2222222211111111, 0x00000000FFFFFFFF]);
+    assert_eq!((&words[66..127], words[127]), (&[0; 61][..], 0xA8888888A4444444));
+    assert_eq!(words[128..191], [&[MAX; 3][..], &[0; 60]].concat());
+    assert_eq!(words[192..255], [&[0, 0, 7][..], &[0; 60]].concat());
+    // of three words MAX and of 7 as the third word alone
+    assert_eq!([words[191], words[255]], [0x1000000000000000, 0xF000000000000000]);
+}
+
+/// The words of blocks without their checks.
+fn without_checks(words: &[u64]) -> Vec<u64> {
+    words.chunks(64).flat_map(|block| &block[..63]).copied().collect()
+}
+
+#[test]
+fn as_few_blocks_as_hold_the_words() {
+    let code = [(1, 1), (2, 1), (125, 1), (126, 1), (127, 2), (252, 2), (253, 3), (1024, 9)];
+    let memory = [(0, 0), (1, 1), (62, 1), (63, 1), (64, 2), (126, 2), (127, 3), (512, 9)];
+    for ((code_words, code_blocks), (memory_words, memory_blocks)) in
+        code.into_iter().flat_map(|code| memory.map(|memory| (code, memory)))
+    {
+        let values = values(&vec![115; code_words], &vec![5; memory_words]);
+        let words = job_words(&values, 1 + code_blocks + memory_blocks);
+        assert_eq!([words[1], words[21]], [code_words as u64, memory_words as u64]);
+        let (pairs, half) = (vec![115 << 32 | 115; code_words / 2], vec![115; code_words % 2]);
+        let mut expected = [pairs, half].concat();
+        expected.resize(63 * code_blocks, 0);
+        expected.extend(vec![5; memory_words]);
+        expected.resize(63 * (code_blocks + memory_blocks), 0);
+        assert_eq!(without_checks(&words[64..]), expected);
+    }
+}
+
+#[test]
+fn zeros_at_the_end_alone_are_left_out() {
+    let given = |memory: &[u64], blocks| {
+        let words = job_words(&values(&[115], memory), blocks);
+        let mut found = without_checks(&words[128..]);
+        found.resize(512, 0);
+        assert_eq!(found, [memory, &MEMORY[memory.len()..]].concat());
+        words[21]
+    };
+    assert_eq!(given(&[], 2), 0);
+    assert_eq!(given(&[0; 512], 2), 0);
+    assert_eq!(given(&[0, 0, 1, 0], 3), 3);
+    assert_eq!(given(&[4, 0, 0, 1 << 63, 0, 0, 1 << 32], 3), 7);
+    assert_eq!(given(&[&[0; 62][..], &[9]].concat(), 3), 63);
+    assert_eq!(given(&[&[8][..], &[0; 62], &[9, 0]].concat(), 4), 64);
+    assert_eq!(given(&[&[0; 511][..], &[MAX]].concat(), 11), 512);
+    assert_eq!(given(&[&[3; 510][..], &[1, 0]].concat(), 11), 511);
+}
+
+/// Changes that bring a no, and its number.
+const NOES: [(u64, fn(&mut Values)); 16] = [
+    (1, |values| values.code.clear()),
+    (1, |values| values.code.resize(1025, 0)),
+    (2, |values| values.intervals.truncate(3)),
+    (2, |values| values.intervals.resize(17, 9)),
+    (2, |values| values.intervals.resize(18, 9)),
+    (3, |values| values.intervals[0] = 256),
+    (3, |values| values.intervals[3] = 2),
+    (4, |values| values.limit = 0),
+    (4, |values| values.limit = 65_537),
+    (4, |values| values.limit = MAX),
+    (6, |values| values.memory.clear()),
+    (6, |values| values.memory.truncate(511)),
+    (6, |values| values.memory.push(0)),
+    (6, |values| values.memory.push(1)),
+    (8, |values| values.first = 1 << 32),
+    (8, |values| values.first = MAX),
+];
+
+/// Values that would be written in three blocks, with some changes.
+fn changed(changes: &[fn(&mut Values)]) -> Values {
+    let mut values = values(&[115; 3], &[5]);
+    changes.iter().for_each(|change| change(&mut values));
+    values
+}
+
+#[test]
+fn the_first_no_of_the_values_decides() {
+    for (place, &(number, change)) in NOES.iter().enumerate() {
+        // the space is asked last
+        for space_bytes in [1536, 1535, 0] {
+            assert_refused(&changed(&[change]), space_bytes, number);
+        }
+        for &(_, later) in NOES[place..].iter().filter(|(later, _)| *later > number) {
+            assert_refused(&changed(&[later, change]), 1536, number);
+        }
+    }
+}
+
+#[test]
+fn bounds_are_written() {
+    let mut most = values(&[115; 1024], &[1; 512]);
+    (most.intervals, most.limit, most.first) = (vec![MAX; 16], 65_536, (1 << 32) - 1);
+    let words = job_words(&most, 19);
+    assert_eq!(words[..5], [1, 1024, 8, 65_536, (1 << 32) - 1]);
+    let least = Values { intervals: vec![], limit: 1, ..values(&[0], &[]) };
+    assert_eq!(job_words(&least, 2)[..5], [1, 1, 0, 1, 0]);
+}
+
+#[test]
+fn spaces_that_are_short_exact_and_long() {
+    let values = values(&[115; 3], &[5]);
+    for bytes in [0, 1, 511, 512, 1024, 1535] {
+        assert_refused(&values, bytes, 14);
+    }
+    let (answer, exact) = written(&values, 1536);
+    assert_eq!(answer, (0, 1536));
+    for more in [1, 7, 512, 10_000] {
+        let longer = [&exact[..], &vec![0xEE; more]].concat();
+        assert_eq!(written(&values, 1536 + more), ((0, 1536), longer));
+    }
+}
+
+#[test]
+fn jobs_that_mean_the_same_are_written_alike() {
+    let values = Values { first: 5, ..values(&[115; 3], &[5, 0, 6]) };
+    let (_, job) = written(&values, 1536);
+    assert_eq!(read_values(&job), Ok(values.clone()));
+    for given in [3, 4, 63, 64, 511, 512] {
+        let (code, intervals) = (vec![115; 3], vec![(0, 255), (3, 7)]);
+        let memory = values.memory[..given].to_vec();
+        let form = formats::job::Job { code, intervals, limit: 100, first: 5, memory }.to_bytes();
+        assert_eq!(read_values(&form), Ok(values.clone()));
+        assert_eq!(form == job, given == 3);
+    }
+    let mut damaged = job.clone();
+    damaged[600] ^= 1;
+    assert_eq!(read_values(&damaged), Err(BAD_CHECK));
+    assert_eq!(read_values(&job[..1024]), Err(BAD_FORM));
+}
+
+#[test]
+fn jobs_are_written_as_the_tool_writes_them() {
+    let mut random = Random(5);
+    for _ in 0..2000 {
+        let inputs = programs::input_count(&mut random);
+        let intervals = programs::small_box(&mut random, inputs, 1000);
+        let (code, limit) =
+            (programs::program(&mut random, inputs), 1 + random.below(65_536) as u64);
+        let mut memory: Vec<u64> =
+            (0..random.below(513)).map(|_| random.pick(&[0, 1, MAX])).collect();
+        let whole = [&memory[..], &MEMORY[memory.len()..]].concat();
+        memory.truncate(memory.iter().rposition(|&word| word != 0).map_or(0, |last| last + 1));
+        let first = random.next() >> 32;
+        let flat = formats::blocks::flat(&intervals);
+        let values = Values { code: code.clone(), memory: whole, intervals: flat, limit, first };
+        let job = formats::job::Job { code, intervals, limit, first, memory }.to_bytes();
+        assert_eq!(written(&values, job.len()), ((0, job.len() as u64), job.clone()));
+        assert_eq!(read_values(&job), Ok(values));
+    }
 }

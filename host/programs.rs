@@ -2,7 +2,8 @@
 
 use formats::assembler::*;
 use formats::blocks::Interval;
-use formats::limits::MEMORY_WORDS;
+use formats::job::Job;
+use formats::limits::{MEMORY_WORDS, PATH_NUMBERS};
 use formats::random::Random;
 
 // ---------------------------------------------------------------------------------------------
@@ -147,6 +148,16 @@ pub fn program(random: &mut Random, inputs: usize) -> Vec<u32> {
         writer.code.extend(closing());
     }
     writer.code
+}
+
+/// A program as a job, which at times leaves out the last words of its memory.
+pub fn random_job(random: &mut Random, intervals: Vec<Interval>) -> Job {
+    let (short, near) = (1 + random.below(60) as u64, random.below(6) as u64);
+    let mut memory = memory_for(random, &intervals);
+    memory.truncate(random.pick(&[CONSTANT_WORDS.end, 100, MEMORY_WORDS]));
+    let code = program(random, intervals.len());
+    let limit = random.pick(&[short, 100, 200, 400]);
+    Job { code, intervals, limit, first: random.pick(&[0, near, PATH_NUMBERS - 1]), memory }
 }
 
 impl Writer<'_> {

@@ -1,5 +1,10 @@
-//! What the tests of calls share: a run with its seed and counts, and margins around what is lent.
+//! What the tests of calls share: a run with its seed and counts, margins around what is lent, and
+//! changed blocks.
 
+#![allow(dead_code)] // a test uses a part of it
+
+use formats::blocks::{payload, to_bytes};
+use formats::limits::{BLOCK_BYTES, BLOCK_WORDS};
 use formats::random::Random;
 use std::fmt::{Debug, Display};
 
@@ -12,6 +17,25 @@ pub const FILL: u64 = 0xA5A5_A5A5_A5A5_A5A5;
 
 pub fn with_margins<T: Copy>(list: &[T], fill: T) -> Vec<T> {
     [&[fill; MARGIN][..], list, &[fill; MARGIN]].concat()
+}
+
+/// Room for so many bytes, with its margins, as it comes: any bytes, so that one that is written shows.
+pub fn any_room(random: &mut Random, bytes: usize) -> Vec<u8> {
+    let length = MARGIN + bytes + MARGIN;
+    let mut room: Vec<u8> =
+        (0..length.div_ceil(8)).flat_map(|_| random.next().to_le_bytes()).collect();
+    room.truncate(length);
+    room
+}
+
+/// The job with another word, and a right check.
+pub fn with_word(job: &[u8], place: usize, value: u64) -> Vec<u8> {
+    let block = place / BLOCK_WORDS * BLOCK_BYTES..(place / BLOCK_WORDS + 1) * BLOCK_BYTES;
+    let mut words = payload(&job[block.clone()]).expect("a block of a job");
+    words[place % BLOCK_WORDS] = value;
+    let mut changed = job.to_vec();
+    changed[block].copy_from_slice(&to_bytes(&words));
+    changed
 }
 
 pub fn flip(bytes: &mut [u8], bit: usize) {

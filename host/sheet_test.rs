@@ -18,7 +18,7 @@ use formats::random::Random;
 use formats::report::{read_pages, Record};
 use oracle::{BAD_RECORDS, SHORT_SHEET};
 use reports::{own_report, record, report_of, Damage, ReportTest, MOST_PATHS, NUMBER};
-use runs::{flip, with_margins, Seen, Test, FILL, MARGIN};
+use runs::{any_room, flip, with_margins, Seen, Test, FILL, MARGIN};
 use std::fmt;
 
 /// Programs explored, and foreign reports made, for each input count.
@@ -78,15 +78,6 @@ impl fmt::Display for Call<'_> {
         let (inputs, report, sheet) = (self.inputs, self.report.len(), self.sheet_bytes);
         write!(f, "{inputs} inputs, {report} report bytes, {sheet} sheet bytes")
     }
-}
-
-/// A sheet with its margins, as it comes: any bytes, so that one that is written shows.
-fn any_sheet(random: &mut Random, bytes: usize) -> Vec<u8> {
-    let length = MARGIN + bytes + MARGIN;
-    let mut sheet: Vec<u8> =
-        (0..length.div_ceil(8)).flat_map(|_| random.next().to_le_bytes()).collect();
-    sheet.truncate(length);
-    sheet
 }
 
 // ---------------------------------------------------------------------------------------------
@@ -165,7 +156,7 @@ impl ReportTest for Tally {
 impl Run {
     /// The number on which the library and the oracle must agree, and the sheet as the call leaves it.
     fn compare(&mut self, case: &str, call: &Call, known: Option<u64>) -> (u64, Vec<u8>) {
-        let came = any_sheet(&mut self.random, call.sheet_bytes);
+        let came = any_room(&mut self.random, call.sheet_bytes);
         let mut expected = came.clone();
         let lent = &mut expected[MARGIN..][..call.sheet_bytes];
         let number = oracle::sheet(call.inputs, call.report, lent);
