@@ -23,6 +23,7 @@ extern "C" {
 #define MIROKEFA_BLOCK_WORDS 64         /* words of 64 bits in a block, the last one its check */
 #define MIROKEFA_BLOCK_BYTES 512        /* bytes of a block */
 #define MIROKEFA_MOST_BLOCKS 19         /* a job has 1 to so many blocks */
+#define MIROKEFA_MOST_JOB_BYTES 9728    /* bytes of the longest job */
 #define MIROKEFA_PATH_BYTES(inputs) 1024 /* bytes of a path in the report, by the input count: two blocks for up to 8 */
 #define MIROKEFA_PATH_NUMBERS (UINT64_C(1) << 32) /* the first path wanted is below this */
 #define MIROKEFA_MOST_ROWS 1024         /* a call places 0 to so many rows */
@@ -39,7 +40,8 @@ extern "C" {
 /* The first question with the answer no decides. mirokefa_explore asks 1 to 8 in this order;
  * mirokefa_serve asks 9, 10, 1, 2, 3, 4, 6, 8 and 11 of the job, and then 7; mirokefa_place asks 12
  * and then 13, mirokefa_sheet 12 and then 14; mirokefa_count asks what mirokefa_serve asks of the
- * job, and then 15 and 16. A refused call reports no path and changes nothing lent. */
+ * job, and then 15 and 16; mirokefa_write asks 1, 2, 3, 4, 6 and 8, and then 14. A refused call
+ * reports no path and changes nothing lent. */
 enum mirokefa_refusal {
     MIROKEFA_ACCEPTED = 0,
     MIROKEFA_REFUSED_CODE = 1,      /* the code is not 1 to 1,024 words */
@@ -56,7 +58,8 @@ enum mirokefa_refusal {
     MIROKEFA_REFUSED_RECORDS = 12,  /* the input count is not 1 to 8, the report is not whole records of that count, a record has another
                                        count, or the check of a block does not agree */
     MIROKEFA_REFUSED_ROWS = 13,     /* the rows are not whole or more than 1,024, or there is not one answer for each */
-    MIROKEFA_REFUSED_SHEET = 14,    /* the sheet is shorter than its text */
+    MIROKEFA_REFUSED_SPACE = 14,    /* the lent space is shorter than what is to be written: a sheet's text, a job */
+    MIROKEFA_REFUSED_SHEET = 14,    /* the same number by its first name */
     MIROKEFA_REFUSED_SIZE = 15,     /* the starting box has 2^64 choices or more */
     MIROKEFA_REFUSED_PATHS = 16     /* the job has more than 64 paths */
 };
@@ -205,6 +208,32 @@ struct mirokefa_counts {
  *
  * job        as for mirokefa_serve. Read only. */
 struct mirokefa_counts mirokefa_count(const uint8_t *job, size_t job_bytes);
+
+/* What mirokefa_write answers. */
+struct mirokefa_written {
+    uint64_t refused;   /* 0 for an accepted call, otherwise the number of a refusal */
+    uint64_t bytes;     /* the bytes of the job that was written; 0 for a refused call */
+};
+
+/* Writes the job blocks of these values, which mirokefa_serve, mirokefa_count and the program read: the header, the code, and memory
+ * without the zero words at its end, in as few blocks as hold them; what is unused in a block is 0. Jobs that give the reader the same
+ * code, intervals, limit, first path and 512 memory words mean the same, and of all these exactly one is written so. Parts are lent as
+ * for mirokefa_explore.
+ *
+ * code       as for mirokefa_explore. Read only.
+ * memory     the 512 data words as the program finds them. Read only.
+ * intervals  as for mirokefa_explore. Read only.
+ * limit      the step limit.
+ * first      the number of the first path wanted.
+ * job        room for the job; MIROKEFA_MOST_JOB_BYTES are always enough, and bytes behind the job stay as lent. It overlaps nothing
+ *            else lent. */
+struct mirokefa_written mirokefa_write(
+    const uint32_t *code, size_t code_words,
+    const uint64_t *memory, size_t memory_words,
+    const uint64_t *intervals, size_t interval_words,
+    uint64_t limit,
+    uint64_t first,
+    uint8_t *job, size_t job_bytes);
 
 #ifdef __cplusplus
 }

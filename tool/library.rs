@@ -25,6 +25,14 @@ pub struct Counts {
     pub total: u64,
 }
 
+/// `bytes` is the length of the job that was written, 0 for a refused call.
+#[repr(C)]
+#[derive(Clone, Copy, Debug, PartialEq, Eq)]
+pub struct Written {
+    pub refused: u64,
+    pub bytes: u64,
+}
+
 extern "C" {
     fn mirokefa_explore(
         code: *const u32,
@@ -39,6 +47,13 @@ extern "C" {
         report: *mut u8,
         report_bytes: usize,
         first: u64,
+    ) -> Reply;
+
+    fn mirokefa_serve(
+        job: *const u8,
+        job_bytes: usize,
+        report: *mut u8,
+        report_bytes: usize,
     ) -> Reply;
 
     fn mirokefa_place(
@@ -62,6 +77,19 @@ extern "C" {
     ) -> u64;
 
     fn mirokefa_count(job: *const u8, job_bytes: usize) -> Counts;
+
+    fn mirokefa_write(
+        code: *const u32,
+        code_words: usize,
+        memory: *const u64,
+        memory_words: usize,
+        intervals: *const u64,
+        interval_words: usize,
+        limit: u64,
+        first: u64,
+        job: *mut u8,
+        job_bytes: usize,
+    ) -> Written;
 }
 
 pub fn explore(
@@ -90,6 +118,12 @@ pub fn explore(
             first,
         )
     }
+}
+
+/// A job in blocks, with the table of the course's program.
+pub fn serve(job: &[u8], report: &mut [u8]) -> Reply {
+    // SAFETY: as above
+    unsafe { mirokefa_serve(job.as_ptr(), job.len(), report.as_mut_ptr(), report.len()) }
 }
 
 /// 0, or the number of a refusal.
@@ -126,4 +160,30 @@ pub fn sheet(inputs: u64, report: &[u8], sheet: &mut [u8]) -> u64 {
 pub fn count(job: &[u8]) -> Counts {
     // SAFETY: as for explore
     unsafe { mirokefa_count(job.as_ptr(), job.len()) }
+}
+
+/// The job's blocks at the start of `job`, whose other bytes stay.
+pub fn write(
+    code: &[u32],
+    memory: &[u64],
+    intervals: &[u64],
+    limit: u64,
+    first: u64,
+    job: &mut [u8],
+) -> Written {
+    // SAFETY: as for explore
+    unsafe {
+        mirokefa_write(
+            code.as_ptr(),
+            code.len(),
+            memory.as_ptr(),
+            memory.len(),
+            intervals.as_ptr(),
+            intervals.len(),
+            limit,
+            first,
+            job.as_mut_ptr(),
+            job.len(),
+        )
+    }
 }

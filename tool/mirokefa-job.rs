@@ -1,7 +1,9 @@
-//! Makes, shows and explores jobs, places rows in their paths and counts their choices. Exploring,
-//! placing, counting and the text of a sheet are done by the proved library; the rest is not proved.
+//! Makes, shows and explores jobs, places rows in their paths and counts their choices. A job's blocks,
+//! exploring, placing, counting and the text of a sheet are the proved library's; the rest is not proved.
 
 mod count;
+mod form;
+#[allow(dead_code)] // jobs are served in the host tests alone
 mod library;
 mod place;
 mod sheet;
@@ -9,7 +11,7 @@ mod sheet;
 use formats::blocks::flat;
 use formats::job::{self, Job};
 use formats::limits::{
-    path_bytes, BLOCK_BYTES, MOST_BLOCKS, MOST_INPUTS, USUAL_PAGE_PATHS, USUAL_TABLE_WORDS,
+    path_bytes, MOST_INPUTS, MOST_JOB_BYTES, USUAL_PAGE_PATHS, USUAL_TABLE_WORDS,
 };
 use formats::report::{self, Shown};
 use formats::source::{self, Fault};
@@ -111,12 +113,16 @@ fn read_source(name: &str) -> Result<Job> {
     source::assemble(&read_text(name)?).map_err(|faults| line_faults(name, &faults))
 }
 
+fn is_source(name: &str) -> bool {
+    name.ends_with(".s")
+}
+
 /// A job's blocks, which a source is made into.
 fn read_blocks(name: &str) -> Result<Vec<u8>> {
-    if name.ends_with(".s") {
-        return read_source(name).map(|job| job.to_bytes());
+    if is_source(name) {
+        return form::written(&read_source(name)?);
     }
-    read_file(name, MOST_BLOCKS * BLOCK_BYTES)
+    read_file(name, MOST_JOB_BYTES)
 }
 
 /// A job from its source or from its blocks.
@@ -128,7 +134,7 @@ fn read_job(name: &str) -> Result<Job> {
 // Commands.
 
 fn make(name: &str) -> Result<Output> {
-    read_source(name).map(|job| output(job.to_bytes()))
+    form::written(&read_source(name)?).map(output)
 }
 
 fn show(name: &str) -> Result<Output> {
@@ -238,6 +244,7 @@ fn run(arguments: &[String]) -> Result<Output> {
     }
     match words[..] {
         ["make", name] => make(name),
+        ["form", name] => form::form(name),
         ["show", name] => show(name),
         ["report", name] => report(name),
         ["explore", name, ..] => explore(name, &arguments[2..]),
@@ -262,7 +269,7 @@ mod tests {
     use super::*;
     use formats::assembler::job_a;
     use formats::blocks;
-    use formats::limits::PAYLOAD_WORDS;
+    use formats::limits::{BLOCK_BYTES, PAYLOAD_WORDS};
 
     const JOB_A_LISTING: &str = include_str!("../jobs/job-a.out");
 
@@ -332,6 +339,8 @@ mod tests {
             &[][..],
             &["make"],
             &["make", "a", "b"],
+            &["form"],
+            &["form", "a.job", "b.job"],
             &["explore"],
             &["list", "a"],
             &["place", "a.s"],

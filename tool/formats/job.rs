@@ -32,6 +32,7 @@ pub struct Job {
 }
 
 impl Job {
+    /// With every memory word given: `read` compares with it, and tests make jobs that the library never writes.
     pub fn to_bytes(&self) -> Vec<u8> {
         [to_bytes(&self.header()), to_bytes(&self.code_pairs()), to_bytes(&self.memory)].concat()
     }
@@ -56,6 +57,12 @@ impl Job {
         self.code.chunks(2).map(pair).collect()
     }
 
+    /// Without the words at the end of memory that are given as 0.
+    pub fn without_zeros(&self) -> Job {
+        let needed = self.memory.iter().rposition(|&word| word != 0).map_or(0, |last| last + 1);
+        Job { memory: self.memory[..needed].to_vec(), ..self.clone() }
+    }
+
     /// With the words that are not given.
     pub fn whole_memory(&self) -> Vec<u64> {
         let mut memory = self.memory.clone();
@@ -72,7 +79,7 @@ pub fn read(bytes: &[u8]) -> Result<Job, u64> {
         return Err(number);
     }
     let job = job_of(header, &payloads[1..]);
-    // a job has one form: where the word 0, the block count or an unused word differs, so do the bytes
+    // a `Job` has one set of bytes: where word 0, the block count or an unused word differs, so do they
     if job.to_bytes() == bytes {
         Ok(job)
     } else {
@@ -185,6 +192,17 @@ mod tests {
             let job = random_job(&mut random);
             assert_eq!(read(&job.to_bytes()), Ok(job));
         }
+    }
+
+    #[test]
+    fn zeros_at_the_end_of_memory_need_not_be_given() {
+        let needed = |memory: &[u64]| {
+            let job = Job { memory: memory.to_vec(), ..job_a() };
+            assert_eq!(job.whole_memory(), job.without_zeros().whole_memory());
+            job.without_zeros().memory
+        };
+        assert_eq!([needed(&[]), needed(&[0]), needed(&[0; 512])], [[0; 0]; 3]);
+        assert_eq!([needed(&[0, 7]), needed(&[0, 7, 0, 0])], [[0, 7]; 2]);
     }
 
     #[test]

@@ -22,6 +22,7 @@ pub const PAYLOAD_WORDS: usize = BLOCK_WORDS - 1;
 pub const BLOCK_BYTES: usize = 8 * BLOCK_WORDS;
 /// Blocks of the largest job.
 pub const MOST_BLOCKS: usize = 19;
+pub const MOST_JOB_BYTES: usize = MOST_BLOCKS * BLOCK_BYTES;
 
 /// The table and the page of the course's program.
 pub const USUAL_TABLE_WORDS: usize = 8192;
@@ -59,6 +60,7 @@ mod tests {
             ("BLOCK_WORDS", BLOCK_WORDS),
             ("BLOCK_BYTES", BLOCK_BYTES),
             ("MOST_BLOCKS", MOST_BLOCKS),
+            ("MOST_JOB_BYTES", MOST_JOB_BYTES),
             ("PATH_BYTES(inputs)", path_bytes(MOST_INPUTS)),
             ("USUAL_TABLE_WORDS", USUAL_TABLE_WORDS),
             ("USUAL_PAGE_PATHS", USUAL_PAGE_PATHS),

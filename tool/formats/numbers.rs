@@ -42,7 +42,7 @@ pub fn refusal_text(number: u64) -> String {
         11 => "the header's first word is not 1, blocks are missing or too many, or an unused word is not 0".to_string(),
         12 => format!("the input count is not 1 to {MOST_INPUTS}, or the report is not whole records of that count with checks that agree"),
         13 => format!("the rows are not whole or more than {MOST_ROWS}, or there is not one answer for each"),
-        14 => "the sheet is shorter than its text".to_string(),
+        14 => "the lent space is shorter than what is to be written: a sheet's text, a job".to_string(),
         15 => "the starting box has 2^64 choices or more".to_string(),
         16 => format!("the job has more than {MOST_COUNTED_PATHS} paths"),
         _ => "no such refusal".to_string(),
