@@ -41,6 +41,20 @@ fn run_ns(repeats: u32, mut call: impl FnMut()) -> f64 {
     start.elapsed().as_nanos() as f64 / repeats as f64
 }
 
+/// The medians of some sides, timed in turn in each run, so that a change of the machine's speed meets all of them.
+fn medians_in_turn<const SIDES: usize>(
+    repeats: u32,
+    mut sides: [&mut dyn FnMut(); SIDES],
+) -> [f64; SIDES] {
+    let mut times = [(); SIDES].map(|()| Vec::new());
+    for _ in 0..RUNS {
+        for (side, times) in sides.iter_mut().zip(&mut times) {
+            times.push(run_ns(repeats, side));
+        }
+    }
+    times.map(median)
+}
+
 fn median(mut numbers: Vec<f64>) -> f64 {
     numbers.sort_by(f64::total_cmp);
     numbers[numbers.len() / 2]
@@ -76,14 +90,37 @@ struct Cost {
 impl Call {
     fn cost(&self, repeats: u32) -> Cost {
         let (mut table, mut report) = self.room();
-        let mut reply = self.make(&mut table, &mut report);
+        let (paths, steps) = self.listed(&mut table, &mut report);
+        let ns = median_ns(repeats, || {
+            black_box(self.make(&mut table, &mut report));
+        });
+        Cost { paths, steps, ns }
+    }
+
+    /// The cost, and the nanoseconds of a plain step, timed in turn. The step is one of the busy loop for every
+    /// job, so that their ratios have one unit.
+    fn cost_beside_plain(&self, repeats: u32) -> (Cost, f64) {
+        let (mut table, mut report) = self.room();
+        let (paths, steps) = self.listed(&mut table, &mut report);
+        let mut own = || {
+            black_box(self.make(&mut table, &mut report));
+        };
+        let plain_loop = busy_loop(LONG, 20, 20);
+        // runs that take the time of the call: what else the machine does meets both alike
+        let runs = (run_ns(1, &mut own) / run_ns(1, || run_on_20(&plain_loop))).ceil();
+        let mut plain = || (0..runs as u32).for_each(|_| run_on_20(&plain_loop));
+        let [ns, plain_ns] = medians_in_turn(repeats, [&mut own, &mut plain]);
+        (Cost { paths, steps, ns }, plain_ns / (runs * run_plain(&plain_loop, &[20]) as f64))
+    }
+
+    /// The paths and the steps of all of them; one page has room for the listing.
+    fn listed(&self, table: &mut [u64], report: &mut [u8]) -> (u64, u64) {
+        let reply = self.make(table, report);
         assert!(reply.refused == 0 && reply.more == 0, "{reply:?}");
         let inputs = self.job.intervals.len();
         let page = &report[..reply.count as usize * path_bytes(inputs)];
         let records = read_pages(page, inputs).expect("a page of the library");
-        let steps = records.iter().map(|record| record.steps).sum();
-        let ns = median_ns(repeats, || reply = black_box(self.make(&mut table, &mut report)));
-        Cost { paths: reply.count, steps, ns }
+        (reply.count, records.iter().map(|record| record.steps).sum())
     }
 
     /// Table and report.
@@ -216,22 +253,55 @@ fn run_plain(call: &Call, inputs: &[u64]) -> u64 {
     plain.run(&call.job.code, call.job.limit)
 }
 
+fn run_on_20(call: &Call) {
+    black_box(run_plain(black_box(call), black_box(&[20])));
+}
+
 /// The plain interpreter's time on the input 20.
 fn plain_ns(call: &Call) -> f64 {
-    median_ns(3, || {
-        black_box(run_plain(black_box(call), black_box(&[20])));
-    })
+    median_ns(3, || run_on_20(call))
 }
 
 // ---------------------------------------------------------------------------------------------
 // Programs.
 
+/// Turns of the busy loop that make 60,000 steps.
+const LONG: u64 = 7_500;
+
 /// Adds, compares, stores and loads in a loop of `turns` turns and eight steps each. One path, from 9 on.
 fn busy_loop(turns: u64, low: u64, high: u64) -> Call {
+    busy_call(reads(&busy_turns()), turns, low, high)
+}
+
+/// The long busy loop between some words, and then eight comparisons of the input in register 5.
+fn compared_late(before: &[u32], after: &[u32], low: u64, high: u64) -> Call {
+    let code = [before, &busy_turns(), after, &comparisons(8), &closing()].concat();
+    let mut call = busy_call(code, LONG, low, high);
+    // each comparison makes three writes and may fork
+    call.entries += 8 * 4;
+    call
+}
+
+/// The input goes through the loop, and is loaded again behind it.
+fn forks_late(low: u64, high: u64) -> Call {
+    compared_late(&opening(), &[ld(5, 0, 0)], low, high)
+}
+
+fn reads_late(low: u64, high: u64) -> Call {
+    compared_late(&[], &read(0, 5), low, high)
+}
+
+/// As many turns as memory word 32 says.
+fn busy_turns() -> Vec<u32> {
     let start = [ld(6, 256, 0), addi(7, 0, 9)];
     let turn = [add(5, 5, 7), sltu(28, 5, 7), sd(5, 64, 0), ld(29, 64, 0), sub(30, 29, 7)];
     let back = [addi(6, 6, -1), beq(6, 0, 8), jal(0, -28)];
-    let mut call = call(reads(&[&start[..], &turn, &back].concat()), low, high, 1);
+    [&start[..], &turn, &back].concat()
+}
+
+/// A call of code with these turns.
+fn busy_call(code: Vec<u32>, turns: u64, low: u64, high: u64) -> Call {
+    let mut call = call(code, low, high, 1);
     call.memory[32] = turns;
     // six writes in each turn
     call.entries = 6 * turns as usize + 16;
@@ -299,13 +369,19 @@ fn compared_often(forks: u32) -> Call {
 /// A loop of `turns` turns, then one input against `forks` constants. The paths exit with falling values.
 fn compared_and_exited(turns: u64, forks: u32) -> Call {
     let turn = [addi(6, 6, -1), beq(6, 0, 8), jal(0, -8)];
-    let mut work = [&[ld(6, 256, 0)], &turn[..], &[addi(10, 0, 0)]].concat();
-    for _ in 0..forks {
-        work.extend([addi(7, 7, 1000), sltu(28, 5, 7), add(10, 10, 28)]);
-    }
+    let work = [&[ld(6, 256, 0)], &turn[..], &comparisons(forks)].concat();
     let mut call = call(reads(&work), 0, MAX - 1, 1);
     call.memory[32] = turns;
     call
+}
+
+/// Register 5 against constants from register 7 on; register 10 is how many are above it.
+fn comparisons(forks: u32) -> Vec<u32> {
+    let mut work = vec![addi(10, 0, 0)];
+    for _ in 0..forks {
+        work.extend([addi(7, 7, 1000), sltu(28, 5, 7), add(10, 10, 28)]);
+    }
+    work
 }
 
 /// Six inputs of 0..255, each compared once. The exit tells the six answers: a value for each path.
@@ -321,7 +397,7 @@ fn six_compared() -> Call {
 }
 
 // ---------------------------------------------------------------------------------------------
-// Probes. Each runs from the start to the fork: with a long way to it, they are counted by their time.
+// Runs of a cut. Each goes from the start to the fork: with a long way to it, they are counted by their time.
 
 /// A value of the input v, by two numbers a and b: its name, its instructions (v is in register 5, a in 28,
 /// b in 29, and the value in 7) and what they give.
@@ -358,11 +434,12 @@ fn cut_of(call: &Call) -> u64 {
     records[0].intervals[0].1
 }
 
-/// The probes of the one cut of a box: two values around the cut need none, and three need one.
-fn probes(work: &[u32], numbers: [u64; 3], ends: Interval) -> u64 {
+/// The runs of the plain machine that one cut of a box takes, its last one being the high corner below the cut: two
+/// values around the cut need one, and with the next value two.
+fn cut_runs(work: &[u32], numbers: [u64; 3], ends: Interval) -> u64 {
     let last = cut_of(&far_work(work, numbers, ends));
     let calls =
-        [ends, (last, last + 1), (last - 1, last + 1)].map(|ends| far_work(work, numbers, ends));
+        [ends, (last, last + 1), (last, last + 2)].map(|ends| far_work(work, numbers, ends));
     let (mut table, mut report) = calls[0].room();
     let mut time = |call: &Call| {
         let start = Instant::now();
@@ -370,8 +447,8 @@ fn probes(work: &[u32], numbers: [u64; 3], ends: Interval) -> u64 {
         start.elapsed().as_nanos() as f64
     };
     let mut count = || {
-        let [whole, none, one] = calls.each_ref().map(&mut time);
-        (whole - none) / (one - none)
+        let [whole, one, two] = calls.each_ref().map(&mut time);
+        1.0 + (whole - one) / (two - one)
     };
     median((0..ROUNDS).map(|_| count()).collect()).round() as u64
 }
@@ -393,19 +470,19 @@ const BOXES: [Boxes; 4] = [
 ];
 
 /// Compared with the number that it is at some input.
-fn compared_probes(random: &mut Random, value: &Value, boxes: &Boxes, a: u64, b: u64) -> u64 {
+fn compared_runs(random: &mut Random, value: &Value, boxes: &Boxes, a: u64, b: u64) -> u64 {
     let (_, work, given) = value;
     let (low, high) = boxes.1(random);
     let at = random.between((low + 200, high - 200));
-    probes(&[work(), vec![sltu(10, 7, 30)]].concat(), [a, b, given(at, a, b)], (low, high))
+    cut_runs(&[work(), vec![sltu(10, 7, 30)]].concat(), [a, b, given(at, a, b)], (low, high))
 }
 
 /// A product that passes a multiple of 2^64.
-fn passing_probes(random: &mut Random, a: u64) -> u64 {
+fn passing_runs(random: &mut Random, a: u64) -> u64 {
     let passed = 1 + random.below(a as usize - 1) as u128;
     let first = ((passed << 64).div_ceil(a as u128)) as u64;
     let (below, above) = (random.below(1 << 40) as u64, random.below(1 << 40) as u64);
-    probes(&[mul(7, 5, 28)], [a, 0, 0], (first - 2 - below, first + 1 + above))
+    cut_runs(&[mul(7, 5, 28)], [a, 0, 0], (first - 2 - below, first + 1 + above))
 }
 
 // ---------------------------------------------------------------------------------------------
@@ -701,15 +778,15 @@ fn stack_used(call: Call) -> usize {
 // The tables.
 
 fn print_against_plain() {
-    let call = busy_loop(7_500, 20, 20);
+    let call = busy_loop(LONG, 20, 20);
     let cost = call.cost(3);
-    let open = busy_loop(7_500, 20, 30).cost(3);
+    let open = busy_loop(LONG, 20, 30).cost(3);
     let plain_steps = run_plain(&call, &[20]);
     assert_eq!((cost.paths, cost.steps), (1, plain_steps), "the two run the same steps");
     assert_eq!((open.paths, open.steps), (1, plain_steps), "an open input runs them too");
     let plain = plain_ns(&call);
     // what the long table costs by itself
-    let mut idle = busy_loop(7_500, 20, 20);
+    let mut idle = busy_loop(LONG, 20, 20);
     idle.job.code = vec![0];
     let clearing = idle.cost(3).ns;
     let steps = plain_steps as f64;
@@ -741,11 +818,44 @@ fn print_scaling() {
     }
 }
 
+fn print_forks() {
+    println!("\n## Forks against a plain interpreter\n");
+    println!("| job | paths | steps of all paths | µs a call | plain interpreter, ns a step | ratio | aim | a fork, in plain runs from the start |");
+    println!("|---|---|---|---|---|---|---|---|");
+    let jobs = [
+        ("eight inputs of 0..MAX, added and compared", compared_and_added(8), 1, "8"),
+        ("one input, 32 forks", compared_often(32), 20, "6"),
+        ("one path", busy_loop(LONG, 20, 30), 3, "2.6"),
+    ];
+    for (name, call, repeats, aim) in jobs {
+        let (cost, plain) = call.cost_beside_plain(repeats);
+        println!("| {name} | {} | {aim} | - |", ratio_text(&cost, plain));
+    }
+    print_late("long rule that forks late", forks_late);
+    print_late("long rule that reads late", reads_late);
+}
+
+/// Where the forks stand at the end of long paths, the runs from the start are what they cost: they are counted by their time.
+fn print_late(name: &str, job: fn(u64, u64) -> Call) {
+    let (open, plain) = job(20, 10_000).cost_beside_plain(1);
+    let (fixed, fixed_plain) = job(20, 20).cost_beside_plain(3);
+    assert_eq!((open.paths, fixed.paths), (9, 1), "each comparison forks once");
+    assert_eq!(open.steps, open.paths * fixed.steps, "the paths are of one length");
+    let runs = (open.ns / plain - fixed.ns / fixed_plain) / fixed.steps as f64;
+    let a_fork = runs / (open.paths - 1) as f64;
+    println!("| {name} | {} | - | {a_fork:.2} |", ratio_text(&open, plain));
+}
+
+fn ratio_text(cost: &Cost, plain: f64) -> String {
+    let (us, ratio) = (cost.ns / 1000.0, cost.ns / (cost.steps as f64 * plain));
+    format!("{} | {} | {us:.1} | {plain:.1} | {ratio:.1}", cost.paths, cost.steps)
+}
+
 /// Cuts of one kind that are counted.
 const CUTS: usize = 20;
 
-fn print_probes() {
-    println!("\n## Probes of a cut\n");
+fn print_cut_runs() {
+    println!("\n## Runs of a cut\n");
     let boxes = BOXES.map(|boxes| boxes.0).join(" | ");
     println!("| value compared | a, b | {boxes} |\n|---|---|---|---|---|---|");
     let numbers: [&[(u64, u64)]; 5] = [
@@ -757,12 +867,12 @@ fn print_probes() {
     ];
     for (value, pairs) in VALUES.iter().zip(numbers) {
         for &(a, b) in pairs {
-            let count = |boxes| counts(|random| compared_probes(random, value, boxes, a, b));
+            let count = |boxes| counts(|random| compared_runs(random, value, boxes, a, b));
             println!("| {} | {a}, {b} | {} |", value.0, BOXES.each_ref().map(count).join(" | "));
         }
     }
     for a in [64, 60] {
-        let counts = counts(|random| passing_probes(random, a));
+        let counts = counts(|random| passing_runs(random, a));
         println!("\nA product by {a} that passes a multiple of 2^64: {counts}.");
     }
 }
@@ -949,30 +1059,26 @@ fn print_counting() {
     print_counted("one path to the step limit", &to_the_limit, 3);
 }
 
-/// The three are timed in turn, so that a change of the machine's speed meets all of them.
 fn print_counted(name: &str, call: &Call, repeats: u32) {
     let job = call.blocks();
     let size = path_bytes(call.job.intervals.len());
-    let mut report = vec![0; MOST_COUNTED_PATHS * size];
-    let (counts, plain) = (library::count(&job), count_plain(&job, &mut report));
+    let [mut report, mut plain_report] = [(); 2].map(|()| vec![0; MOST_COUNTED_PATHS * size]);
+    let (counts, plain) = (library::count(&job), count_plain(&job, &mut plain_report));
     assert!(counts.refused == 0 && counts == plain, "the two give the same counts");
     let paths = library::serve(&job, &mut report).count;
     let page = &report[..paths as usize * size];
     let records = read_pages(page, call.job.intervals.len()).expect("a page of the library");
     let steps: u64 = records.iter().map(|record| record.steps).sum();
-    let mut times = [(); 3].map(|()| Vec::new());
-    for _ in 0..RUNS {
-        times[0].push(run_ns(repeats, || {
-            black_box(library::serve(black_box(&job), &mut report));
-        }));
-        times[1].push(run_ns(repeats, || {
-            black_box(count_plain(black_box(&job), &mut report));
-        }));
-        times[2].push(run_ns(repeats, || {
-            black_box(library::count(black_box(&job)));
-        }));
-    }
-    let [explored, plain, ns] = times.map(median);
+    let mut explore = || {
+        black_box(library::serve(black_box(&job), &mut report));
+    };
+    let mut plain = || {
+        black_box(count_plain(black_box(&job), &mut plain_report));
+    };
+    let mut own = || {
+        black_box(library::count(black_box(&job)));
+    };
+    let [explored, plain, ns] = medians_in_turn(repeats, [&mut explore, &mut plain, &mut own]);
     let times = [explored, plain, ns].map(|ns| format!("{:.1}", ns / 1000.0)).join(" | ");
     let ratios = [ns / explored, ns / plain].map(|ratio| format!("{ratio:.2}")).join(" | ");
     println!("| {name} | {paths} | {steps} | {} | {times} | {ratios} |", counts.used);
@@ -996,22 +1102,18 @@ fn print_writing() {
     print_written("1,024 code words, 512 memory words, 8 inputs", &largest, 500);
 }
 
-/// The two are timed in turn, as for the counts.
 fn print_written(name: &str, call: &Call, repeats: u32) {
     let [mut blocks, mut plain_blocks] = [(); 2].map(|()| vec![0; MOST_JOB_BYTES]);
     let (written, plain) = (call.write(&mut blocks), write_plain(call, &mut plain_blocks));
     assert!(written.refused == 0 && written == plain, "{written:?}, {plain:?}");
     assert_eq!(blocks, plain_blocks, "the two write the same job");
-    let mut times = [(); 2].map(|()| Vec::new());
-    for _ in 0..RUNS {
-        times[0].push(run_ns(repeats, || {
-            black_box(write_plain(black_box(call), black_box(&mut plain_blocks)));
-        }));
-        times[1].push(run_ns(repeats, || {
-            black_box(black_box(call).write(black_box(&mut blocks)));
-        }));
-    }
-    let [plain, ns] = times.map(median);
+    let mut plain = || {
+        black_box(write_plain(black_box(call), black_box(&mut plain_blocks)));
+    };
+    let mut own = || {
+        black_box(black_box(call).write(black_box(&mut blocks)));
+    };
+    let [plain, ns] = medians_in_turn(repeats, [&mut plain, &mut own]);
     let count = written.bytes as usize / BLOCK_BYTES;
     println!("| {name} | {count} | {plain:.0} | {ns:.0} | {:.2} |", ns / plain);
 }
@@ -1019,7 +1121,8 @@ fn print_written(name: &str, call: &Call, repeats: u32) {
 fn main() {
     print_against_plain();
     print_scaling();
-    print_probes();
+    print_forks();
+    print_cut_runs();
     print_typical_jobs();
     print_growth();
     print_single_calls();

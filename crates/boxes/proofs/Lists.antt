@@ -17,6 +17,10 @@ pub by-test : {C : Type 0} (t : Bool) → (t ≡ true → C) → (t ≡ false �
 by-test true f g = f refl
 by-test false f g = g refl
 
+-- a test has one answer
+pub not-both : {A : Type 0} {b : Bool} → b ≡ false → b ≡ true → A
+not-both f t = let u : _≡_ {A = ℕ} 0 1 = cc in absurd (omega arith)
+
 module _ {A B : Type 0} where
   pub map-cong : (f g : A → B) (l : List A) → ((x : A) → x ∈ l → f x ≡ g x) → map f l ≡ map g l
   map-cong f g [] h = refl

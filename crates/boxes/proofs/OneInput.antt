@@ -139,6 +139,10 @@ module _ {f : Choice → ℕ} {i : ℕ} (b : Box) where
   pub one-input-within : (a : Box) → Within a b → OneInput b i f → OneInput a i f
   one-input-within a w = ⊎-elim (λ r. inl (λ c d m n. r c d (w c m) (w d n))) (λ r. inr (λ c d m n. r c d (w c m) (w d n)))
 
+  pub one-input-same : OneInput b i f → (c d : Choice) → Inside c b → Inside d b → at c i ≡ at d i → f c ≡ f d
+  one-input-same one c d m n e =
+      ⊎-elim (λ r. omega (arith, r c d m n (omega arith), r d c n m (omega arith))) (λ r. omega (arith, r c d m n (omega arith), r d c n m (omega arith))) one
+
   pub one-input-rise : {g : Choice → ℕ} → ((c d : Choice) → Inside c b → Inside d b → f c ≤ f d → g c ≤ g d)
       → OneInput b i f → OneInput b i g
   one-input-rise h = ⊎-elim (λ r. inl (λ c d m n l. h c d m n (r c d m n l))) (λ r. inr (λ c d m n l. h d c n m (r c d m n l)))

@@ -33,13 +33,14 @@ use Rattle.listing.specs.declared.Sorting.the-variants.{Operates, Compares, Not
 use Rattle.listing.specs.declared.End.{End}
 use Rattle.listing.specs.declared.End.the-variants.{TraceFull}
 use Rattle.corners.proofs.Tame.{sort-one-input}
-use Rattle.corners.proofs.Uniform.{Uniform, WordIn, WordsIn, sorting-words, operand-one, operand-word, class-uniform}
+use Rattle.corners.proofs.Uniform.{WordIn, WordsIn, sorting-words, operand-one, operand-word, class-uniform}
 use Rattle.corners.proofs.Uniform.{whole-after, uniform-after}
 use Rattle.corners.proofs.Followed.{otherwise, first-append, closed, operand-closed, not-both, points-followed}
 use Rattle.riscu.specs.Whole.{Whole}
 use Rattle.corners.specs.Smooth.{EitherOpen, Same, OneSame, Settled}
 use Rattle.corners.specs.Good.{Good, inputOf, cornersOf}
 use Rattle.corners.specs.Tags.{tagsAt}
+use Rattle.corners.specs.Uniform.{Uniform}
 
 -- Two lists of points come to the same: test by test, up to the first that applies.
 record Agree (ps qs : List Point) : Type 0 where

@@ -2,7 +2,7 @@
 --     Operations      each operation with one operand fixed: its class, and its result in one class, go one way; a word against itself
 --     Tame            values that hang on one input of a box at most
 --     Smooth          steps that no point ends and that do not fork
---     Uniform         after smooth steps every value is tame, with the tag that is computed
+--     Uniform         a smooth step keeps values tame with any tags that are right; after smooth steps they are, with those computed
 --     Followed        what the ending order says of a group that goes on
 --     Unforked        one class on a group's box: no fork
 --     Itself          one register named twice: SUB, SLTU and BEQ go on

@@ -9,12 +9,12 @@ use Prim.Native.Nat.{ℕ, zero, suc, _/_, _<_}
 use native.Mathlib.Omega.{arith}
 use lib.Dec.{eqb, ltb}
 use lib.ListN.{length, getD, set, length-set, length-replicate}
-use Rattle.boxes.specs.Boxes.{Choice, Box, Proper, lows, highs, Inside}
+use Rattle.boxes.specs.Boxes.{Choice, Box, Proper, lows, highs, Inside, Within}
 use Rattle.boxes.specs.Cuts.{OneInput}
 use Rattle.boxes.proofs.Lists.{by-test}
 use Rattle.boxes.proofs.Places.{getD-set}
 use Rattle.boxes.proofs.Choices.{lows-inside, inside-at, inside-length}
-use Rattle.boxes.proofs.OneInput.{one-input-constant}
+use Rattle.boxes.proofs.OneInput.{one-input-constant, one-input-within}
 use Rattle.riscu.specs.Word.{size, widen}
 use Rattle.riscu.specs.Machine.{State, reg, putIn, put, next, following, operate, offset, fetch, step, readInput, readNext, stepDecoded}
 use Rattle.riscu.specs.Machine.{run}
@@ -34,18 +34,8 @@ use Rattle.corners.proofs.Tame.{tagOf, one-input-cong, one-input-number
 use Rattle.riscu.specs.Whole.{Whole}
 use Rattle.corners.specs.Smooth.{Same, OneSame, PairSettled, OperandsSettled, Settled, Smooth}
 use Rattle.corners.specs.Tags.{Tags, toRegister, tagIn, tagStep, tagBy, classTag, tagDecoded, tagsAt}
+use Rattle.corners.specs.Uniform.{Elements, Uniform}
 use Rattle.corners.specs.Good.{Sound}
-
--- each element hangs on the input that its tag names, at most
-pub record Elements (n : ℕ) (b : Box) (ts : List ℕ) (l : Choice → List ℕ) : Type 0 where
-  pub count : length ts ≡ n
-  pub one : (k : ℕ) → OneInput b (getD ts k 0) (λ c. getD (l c) k 0)
-
-pub record Uniform (b : Box) (s : Choice → State) (t : Tags) : Type 0 where
-  pub pc : Same b (λ c. s c .pc)
-  pub reads : Same b (λ c. s c .reads)
-  pub registers : Elements 32 b (t .registers) (λ c. s c .registers)
-  pub memory : Elements 512 b (t .memory) (λ c. s c .memory)
 
 -- the constants that an instruction sorts by are words
 abbrev pub WordIn : Operand → Type 0
@@ -102,6 +92,19 @@ uniform-cong {b} {s} {s′} e u =
       reads = λ c d m n. cc (e c m, e d n, u .reads c d m n);
       registers = record { count = u .registers .count; one = λ k. one-input-cong b (λ c m. cc (e c m)) (u .registers .one k) };
       memory = record { count = u .memory .count; one = λ k. one-input-cong b (λ c m. cc (e c m)) (u .memory .one k) };
+    }
+
+elements-within : {n : ℕ} {a b : Box} {ts : List ℕ} {l : Choice → List ℕ} → Within a b → Elements n b ts l → Elements n a ts l
+elements-within {a = a} {b = b} w e = record { count = e .count; one = λ k. one-input-within b a w (e .one k) }
+
+-- on a part of the box
+pub uniform-within : {a b : Box} {s : Choice → State} {t : Tags} → Within a b → Uniform b s t → Uniform a s t
+uniform-within w u =
+    record {
+      pc = λ c d m n. u .pc c d (w c m) (w d n);
+      reads = λ c d m n. u .reads c d (w c m) (w d n);
+      registers = elements-within w (u .registers);
+      memory = elements-within w (u .memory);
     }
 
 module _ {b : Box} (proper : Proper b) {s : Choice → State} {t : Tags} (whole : (c : Choice) → Inside c b → Whole (s c))
@@ -232,7 +235,7 @@ module _ (j : Job) (b : Box) (sound : Sound j b) where
   whole-after n c h =
       run-whole (j .code) c (λ k. omega (arith, inside-at b c h k, sound .inputs k)) (start-whole (j .memory) (sound .memory)) n
 
-  after-suc : (n : ℕ) {i : Instruction} (c : Choice) → fetch (j .code) (after j n c .pc) ≡ Row i
+  pub after-suc : (n : ℕ) {i : Instruction} (c : Choice) → fetch (j .code) (after j n c .pc) ≡ Row i
       → step c i (after j n c) ≡ after j (suc n) c
   unfolding after run stepDecoded
   after-suc n c e = rw e
@@ -247,13 +250,16 @@ module _ (j : Job) (b : Box) (sound : Sound j b) where
         memory = record { count = length-replicate {A = ℕ} 512 0; one = λ k. one-input-constant b (λ c d m n. refl) };
       }
 
-  pub uniform-next : (n : ℕ) → Smooth j b n → Uniform b (after j n) (tagsAt j b n) → Uniform b (after j (suc n)) (tagsAt j b (suc n))
+  -- a smooth step, whatever the tags were
+  pub uniform-step : (n : ℕ) (s : Smooth j b n) {t : Tags} → Uniform b (after j n) t
+      → Uniform b (after j (suc n)) (tagStep (lows b) (s .instruction) (after j n (lows b)) (after j n (highs b)) t)
+  uniform-step n s u =
+      uniform-cong (λ c m. after-suc n c (s .followed .fetched c m))
+      (step-uniform (sound .proper) (whole-after n) u (s .instruction) (s .followed .settled) (s .class))
+
+  uniform-next : (n : ℕ) → Smooth j b n → Uniform b (after j n) (tagsAt j b n) → Uniform b (after j (suc n)) (tagsAt j b (suc n))
   unfolding tagsAt tagDecoded
-  uniform-next n s u =
-      let f = s .followed in
-      rw (f .fetched (lows b) (lows-inside b (sound .proper)))
-      (uniform-cong (λ c m. after-suc n c (f .fetched c m))
-      (step-uniform (sound .proper) (whole-after n) u (s .instruction) (f .settled) (s .class)))
+  uniform-next n s u = rw (s .followed .fetched (lows b) (lows-inside b (sound .proper))) (uniform-step n s u)
 
   -- after smooth steps
   pub uniform-after : (n : ℕ) → ((m : ℕ) → m < n → Smooth j b m) → Uniform b (after j n) (tagsAt j b n)

@@ -4,13 +4,17 @@ use mathlib.Core.Logic.{_≢_}
 use mathlib.Core.List.{List}
 use Prim.Native.Nat.{ℕ, suc, _<_, _≤_}
 use lib.ListN.{set}
-use Rattle.riscu.specs.Machine.{run, start}
+use Rattle.riscu.specs.Machine.{State, run, start}
 use Rattle.riscu.specs.declared.Instruction.{Instruction}
 use Rattle.listing.specs.Group.{classOf}
 
--- the class after n steps on a choice whose input is x
+-- the machine after n steps on a choice whose input is x
+abbrev pub reached : List ℕ → List ℕ → ℕ → List ℕ → ℕ → ℕ → State
+reached code memory n c input x = run code (set c input x) n (start memory)
+
+-- the class of an instruction there
 unfoldable pub probed : List ℕ → List ℕ → ℕ → Instruction → List ℕ → ℕ → ℕ → ℕ
-probed code memory n i c input x = classOf i (run code (set c input x) n (start memory))
+probed code memory n i c input x = classOf i (reached code memory n c input x)
 
 -- f is k at lo, and is not at hi above it
 pub record Starts (f : ℕ → ℕ) (k lo hi : ℕ) : Type 0 where

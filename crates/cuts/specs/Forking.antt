@@ -11,8 +11,7 @@ pub record Partable (f : ℕ → ℕ) (k x : ℕ) (ls hs : List ℕ) : Type 0 wh
   pub inside : x < length ls
   pub starts : Starts f k (getD ls x 0) (getD hs x 0)
 
--- cut after the edge m: the lower part is what is left in the lists
-pub record Parted (f : ℕ → ℕ) (k x : ℕ) (ls hs ls′ hs′ : List ℕ) (m : ℕ) : Type 0 where
+-- cut after the edge m: the highs then, the lows being as before
+pub record Parted (f : ℕ → ℕ) (k x : ℕ) (ls hs hs′ : List ℕ) (m : ℕ) : Type 0 where
   pub edge : Turning f k (getD ls x 0) (getD hs x 0) m
-  pub lows : ls′ ≡ ls
   pub highs : hs′ ≡ set hs x m

@@ -1,46 +1,59 @@
 // A box in two lists: cut along an input, and with another interval for an input.
 use crate::hints::Guesses;
 use crate::probes::cut;
+use riscu::At;
 use riscu::Instruction;
 use riscu::plain::Memory;
 use riscu::plain::Registers;
+use runs::running::run;
 ghost use mathlib.Core.Path.{_≡_};
 ghost use Prim.Native.Nat.{_<_};
 ghost use lib.ListN.{length};
 ghost use Rattle.boxes.specs.Boxes.{_⋯_};
 ghost use Rattle.boxes.specs.Cuts.{cut, boxIn};
+ghost use Rattle.riscu.specs.Machine.{run, start};
+ghost use Rattle.riscu.specs.Parts.{state};
 ghost use Rattle.cuts.specs.Cutting.{probed};
 ghost use Rattle.cuts.specs.Forking.{Partable, Parted};
 
+// The part of a box below its cut: where it ends, and where the machine at its high corner is.
+pub struct Below {
+    pub edge: u64,
+    pub high: At,
+}
+
 // Cuts the box along an input, where the class at an instruction is left on the way up: the lists hold the part below then, and the
-// answer is where it ends. Registers and scratch are lent to run in, and what is left in them is free.
+// registers and memory the machine at its high corner.
 pub fn part(
     code: &[u32],
     memory: &Memory,
     registers: &mut Registers,
     scratch: &mut Memory,
-    lows: &mut [u64],
+    lows: &[u64],
     highs: &mut [u64],
     input: usize,
     class: u64,
     guesses: Guesses,
     steps: usize,
     i: Instruction,
-) -> u64
-    requires { let f = probed (now code) (now memory) steps i (now lows) input in
+) -> Below
+    requires { let f = probed (now code) (now memory) steps i (now highs) input in
         ⌜ Partable f class input (now lows) (now highs) ⌝ }
     ensures { λ r.
-        let f = probed (now (code .entry)) (now (memory .entry)) steps i (now (lows .entry)) input in
-        ⌜ Parted f class input (now (lows .entry)) (now (highs .entry)) (now (lows .exit)) (now (highs .exit)) r ⌝ }
+        let f = probed (now (code .entry)) (now (memory .entry)) steps i (now (highs .entry)) input in
+        ⌜ Parted f class input (now (lows .entry)) (now (highs .entry)) (now (highs .exit)) (r .edge) ⌝ }
+    ensures { λ r.
+        let s = run (now (code .entry)) (now (highs .exit)) steps (start (now (memory .entry))) in
+        ⌜ state (r .high) (now (registers .exit)) (now (scratch .exit)) ≡ s ⌝ }
 {
     let lo = lows[input];
     let hi = highs[input];
-    let m = cut(
+    let f = cut(
         code,
         memory,
         registers,
         scratch,
-        lows,
+        highs,
         input,
         lo,
         hi,
@@ -49,8 +62,14 @@ pub fn part(
         steps,
         i,
     );
-    highs[input] = m;
-    m
+    let edge = f.edge;
+    highs[input] = edge;
+    if f.there {
+        let high = f.at;
+        return Below { edge, high };
+    }
+    let high = run(code, memory, highs, steps, registers, scratch);
+    Below { edge, high }
 }
 
 // Gives an input another interval.

@@ -1,17 +1,26 @@
 // Where a class changes along one input: probes, and the search for the edge.
 use crate::hints::Guesses;
 use decide::classes::class_of;
+use riscu::At;
 use riscu::Instruction;
 use riscu::plain::Memory;
 use riscu::plain::Registers;
-use riscu::plain::run;
+use runs::running::run;
 ghost use mathlib.Core.Path.{_≡_};
+ghost use mathlib.Core.Bool.{true};
 ghost use Prim.Native.Nat.{_+_, _<_, _≤_, _-_, _*_};
 ghost use lib.ListN.{length};
-ghost use Rattle.cuts.specs.Cutting.{probed, Starts, Turning};
+ghost use Rattle.riscu.specs.Parts.{state};
+ghost use Rattle.cuts.specs.Cutting.{reached, probed, Starts, Turning};
 
-// The class of an instruction at step n where one input of the choice is x. The choice is as before; the registers and scratch are
-// lent to run in, and what is left in them is free.
+// What the search found: the edge; whether the last probe was at it; and where the machine of that probe is, which is free if not.
+pub struct Found {
+    pub edge: u64,
+    pub there: bool,
+    pub at: At,
+}
+
+// The machine after n steps where one input of the choice is x. The choice is as before.
 fn probe(
     code: &[u32],
     memory: &Memory,
@@ -21,17 +30,18 @@ fn probe(
     input: usize,
     x: u64,
     n: usize,
-    i: Instruction,
-) -> u64
+) -> At
     requires { ⌜ input < length (now choice) ⌝ }
-    ensures { λ r. ⌜ r ≡ probed (now (code .entry)) (now (memory .entry)) n i (now (choice .entry)) input x ⌝ }
+    ensures { λ r.
+        let s = reached (now (code .entry)) (now (memory .entry)) n (now (choice .entry)) input x in
+        ⌜ state r (now (registers .exit)) (now (scratch .exit)) ≡ s ⌝ }
     ensures { λ r. ⌜ now (choice .exit) ≡ now (choice .entry) ⌝ }
 {
     let old = choice[input];
     choice[input] = x;
     let at = run(code, memory, choice, n, registers, scratch);
     choice[input] = old;
-    class_of(i, registers)
+    at
 }
 
 // A point, if it stands strictly between a and b, and otherwise the value so far from the end that it is beyond; of a short interval
@@ -82,8 +92,8 @@ fn guess(a: u64, b: u64, guesses: Guesses, turn: usize) -> u64
 }
 
 // The last value of an input, from lo to below hi, whose class is that of lo, where one above it is not: at most 71 probes; two where
-// the first guess is that value or the next, and four where the second is. Registers and scratch are lent to run in, and what is left
-// in them is free.
+// the first guess is that value or the next, and four where the second is. Where the guess is the next, the last probe is at the edge,
+// and the machine there is left in the registers and scratch.
 pub(crate) fn cut(
     code: &[u32],
     memory: &Memory,
@@ -97,24 +107,31 @@ pub(crate) fn cut(
     guesses: Guesses,
     n: usize,
     i: Instruction,
-) -> u64
+) -> Found
     requires { ⌜ input < length (now choice) ⌝ }
     requires { ⌜ Starts (probed (now code) (now memory) n i (now choice) input) class lo hi ⌝ }
-    ensures { λ r. ⌜ Turning (probed (now (code .entry)) (now (memory .entry)) n i (now (choice .entry)) input) class lo hi r ⌝ }
+    ensures { λ r. ⌜ Turning (probed (now (code .entry)) (now (memory .entry)) n i (now (choice .entry)) input) class lo hi (r .edge) ⌝ }
+    ensures { λ r.
+        let s = reached (now (code .entry)) (now (memory .entry)) n (now (choice .entry)) input (r .edge) in
+        ⌜ (r .there ≡ true → state (r .at) (now (registers .exit)) (now (scratch .exit)) ≡ s) ⌝ }
     ensures { λ r. ⌜ now (choice .exit) ≡ now (choice .entry) ⌝ }
 {
     let mut a = lo;
     let mut b = hi;
+    let mut there = false;
+    let mut at = At { pc: 0, reads: 0 };
     let mut turn: usize = 0;
     while 1 < b - a {
         let x = guess(a, b, guesses, turn);
-        let c = probe(code, memory, registers, scratch, choice, input, x, n, i);
-        if c == class {
+        at = probe(code, memory, registers, scratch, choice, input, x, n);
+        let c = class_of(i, registers);
+        there = c == class;
+        if there {
             a = x;
         } else {
             b = x;
         }
         turn += 1;
     }
-    a
+    Found { edge: a, there, at }
 }

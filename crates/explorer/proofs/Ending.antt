@@ -17,7 +17,8 @@ use Rattle.decide.specs.declared.Limits.{Limits}
 use Rattle.decide.specs.declared.Decision.the-variants.{Ended}
 use Rattle.explorer.specs.Held.{Lists, groupOf, forksOf, decisionOn, Held, ended, listed, work}
 use Rattle.explorer.specs.declared.Standing.{Standing}
-use Rattle.explorer.proofs.Stands.{not-both, stands, turned, lighter, work-running, work-resting}
+use Rattle.boxes.proofs.Lists.{not-both}
+use Rattle.explorer.proofs.Stands.{stands, turned, lighter, work-running, work-resting}
 use Rattle.corners.specs.Good.{cornersOf}
 
 -- the paths of an engine between two groups are the first of the listing

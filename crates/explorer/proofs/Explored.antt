@@ -28,7 +28,8 @@ use Rattle.explorer.specs.Held.{Lists, lists, moved, latest, listed, cor
 use Rattle.explorer.specs.Explored.{Stopped, Explored, Going, Turned, halted}
 use Rattle.explorer.specs.declared.Standing.{Standing}
 use Rattle.explorer.proofs.Straight.{held-straight, work-straight}
-use Rattle.explorer.proofs.Stands.{not-both, work-resting}
+use Rattle.boxes.proofs.Lists.{not-both}
+use Rattle.explorer.proofs.Stands.{work-resting}
 use Rattle.explorer.proofs.Resuming.{held-dropped, work-dropped}
 use Rattle.explorer.proofs.Ending.{here, listed-ended, held-ended, work-ended}
 
@@ -136,11 +137,11 @@ module _ {j : Job} {m : Limits} {w : Window} {x : Lists} {report : List ℕ} {s 
       (registers-in low high)
       ∙ (λ k. record {
         end = end;
-        pc = c k .low .pc;
+        pc = c .low k .pc;
         steps = s .steps;
         box = boxIn (x .lows) (x .highs);
-        reads = c k .low .reads;
-        registers = map (λ n. min (reg n (c k .low)) (reg n (c k .high)) ⋯ max (reg n (c k .low)) (reg n (c k .high))) (from 0 32);
+        reads = c .low k .reads;
+        registers = map (λ n. min (reg n (c .low k)) (reg n (c .high k)) ⋯ max (reg n (c .low k)) (reg n (c .high k))) (from 0 32);
       })
 
   -- what writing the path asks

@@ -26,7 +26,7 @@ use Rattle.explorer.specs.Held.{Lists, lists, groupOf, listed}
 use Rattle.explorer.specs.Explored.{Explored}
 use Rattle.explorer.specs.Finished.{Begins, Finished, begun}
 use Rattle.explorer.specs.declared.Standing.{Standing}
-use Rattle.explorer.proofs.Stands.{not-both}
+use Rattle.boxes.proofs.Lists.{not-both}
 use Rattle.explorer.proofs.Forking.{replayed-to}
 use Rattle.explorer.proofs.Resuming.{between}
 use Rattle.corners.specs.Good.{Good}
@@ -42,7 +42,7 @@ module _ {j : Job} {m : Limits} {w : Window} {ls hs table report : List ℕ} (b 
     held = record {
       fits = b .fits;
       reached = subst (λ (x : _). Reached j (running [] (record { box = x; steps = 0; used = 0 }) [])) (sym (b .box)) begins;
-      corners = λ _. z ∙ replayed-to j ls hs 0 0 (b .fits .paired) first-good;
+      corners = λ _. rw z (replayed-to j ls hs 0 0 (b .fits .paired) first-good);
       count = refl;
     };
     paged = record {

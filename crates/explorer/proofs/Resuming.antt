@@ -4,16 +4,17 @@ use mathlib.Core.Path.{_≡_, refl, sym, ap, _∙_, subst}
 use mathlib.Core.Logic.{_≢_, ⊎-elim}
 use mathlib.Core.Bool.{true, false}
 use mathlib.Core.List.{List, _∷_}
-use Prim.Native.Nat.{ℕ, suc, _+_, _-_, _*_, _^_, _≤_, _<_}
+use Prim.Native.Nat.{ℕ, suc, _+_, _-_, _*_, _≤_, _<_}
 use native.Mathlib.Omega.{arith}
 use native.Mathlib.Decide.{ℕ-discrete}
 use lib.Dec.{ltb}
 use lib.ListN.{length, getD}
-use Rattle.boxes.specs.Boxes.{Box, Choice, _⋯_, lows, highs}
+use Rattle.boxes.specs.Boxes.{Box, Choice, Within, _⋯_, lows, highs}
 use Rattle.boxes.specs.Cuts.{OneInput, cut, below, boxIn}
+use Rattle.boxes.proofs.Cut.{below-within}
 use Rattle.boxes.proofs.OneInput.{one-input-convex}
 use Rattle.boxes.proofs.Pieces.{edge-exists}
-use Rattle.riscu.specs.Machine.{fetch}
+use Rattle.riscu.specs.Machine.{State, fetch}
 use Rattle.riscu.specs.declared.Instruction.{Instruction}
 use Rattle.riscu.specs.declared.Decoded.the-variants.{Row, NoRow}
 use Rattle.listing.specs.Group.{Job, Group, after, classOf}
@@ -29,18 +30,19 @@ use Rattle.forks.proofs.Parts.{fetched-part, written-part}
 use Rattle.forks.proofs.Turns.{known-fork, rest-within, rest-proper, rest-good, rest-one, rest-cuttable, takes-whole, takes-first}
 use Rattle.forks.proofs.Positions.{reached-represents, turn-represents, represents-moves, within-limit, depth}
 use Rattle.decide.specs.Corner.{machine}
-use Rattle.lockstep.specs.Together.{Pair, Machines, both, advanced, together, starting, cornersAfter}
+use Rattle.lockstep.specs.Together.{Machines, both, advanced, together, starting, AtCorners}
 use Rattle.decide.proofs.Decisions.{class-by-registers}
 use Rattle.decide.specs.declared.Limits.{Limits}
 use Rattle.lockstep.specs.declared.Corners.{Corners}
 use Rattle.cuts.specs.Cutting.{probed, Starts}
 use Rattle.cuts.specs.Forking.{Parted}
 use Rattle.cuts.proofs.Edges.{starts-in, parted-edge, parted-below}
-use Rattle.explorer.specs.Held.{Lists, lists, groupOf, forksOf, latest, listed, cornersIn, lowClass, highClass, Held, Rest, AtRest, GoesOn, Takeable, TakenUp, dropped, resumed, groupsLeft, work}
+use Rattle.explorer.specs.Held.{Lists, lists, groupOf, forksOf, latest, listed, cornersIn, withHigh, lowClass, highClass, Held, Rest, AtRest, GoesOn, Takeable, TakenUp, dropped, resumed, groupsLeft, work}
 use Rattle.explorer.specs.declared.Standing.{Standing}
-use Rattle.explorer.proofs.Stands.{not-both, fits-again, fits-parted, work-running, work-resting}
+use Rattle.boxes.proofs.Lists.{not-both}
+use Rattle.explorer.proofs.Stands.{fits-again, fits-parted, work-running, work-resting}
 use Rattle.explorer.proofs.Straight.{corners-next}
-use Rattle.explorer.proofs.Forking.{replayed-to}
+use Rattle.explorer.proofs.Forking.{replayed-to, corners-below}
 use Rattle.corners.specs.Good.{lowState, highState, weight}
 
 pub forks-top : (t : List ℕ) (n : ℕ) → 0 < n → forksIn t n ≡ forkIn t (n - 1) ∷ forksIn t (n - 1)
@@ -123,11 +125,12 @@ module _ {j : Job} {m : Limits} {ps : List Path} {x : Lists} {s : Standing} (h :
 
     module _ (y : Machines) (a : Corners)
         (z : both a y ≡ together ls hs (j .code) (latest x s .steps) (starting (j .memory))) where
-      there : both a y ≡ cornersAfter j (boxIn ls hs) (latest x s .steps)
-      there = z ∙ replayed-to j ls hs (latest x s .steps) (latest x s .used) (p ∙ h .fits .paired ∙ sym q) (rw b (rest-good (rests .1)))
+      there : AtCorners j (boxIn ls hs) (latest x s .steps) (both a y)
+      there =
+          rw z (replayed-to j ls hs (latest x s .steps) (latest x s .used) (p ∙ h .fits .paired ∙ sym q) (rw b (rest-good (rests .1))))
 
       low-pc : a .low .pc ≡ lowState j (left (latest x s) (groupOf x s .box)) .pc
-      low-pc = ap (λ (p : Pair). p .low .pc) there ∙ rw b
+      low-pc = ap (λ (t : State). t .pc) (there .low) ∙ rw b
 
       pub rest-fetches : fetch (j .code) (a .low .pc) ≡ Row (known-fork (rests .1) .instruction)
       rest-fetches = rw low-pc rest-row
@@ -162,13 +165,13 @@ module _ {j : Job} {m : Limits} {ps : List Path} {g : Group} {x : Lists} {s : St
   -- the classes at the two corners
   pub class-low : lowClass i x ≡ classOf i (after j (f .steps) (x .lows))
   class-low =
-      ap (λ (p : Pair). classOf i (machine (p .low .registers))) (h .corners)
+      ap (λ (t : State). classOf i (machine (t .registers))) (h .corners .low)
       ∙ class-by-registers i (after j (f .steps) (lows (boxIn (x .lows) (x .highs))))
       ∙ ap (λ (c : Choice). classOf i (after j (f .steps) c)) (lows-in (x .lows) (x .highs) (h .fits .paired))
 
   pub class-high : highClass i x ≡ classOf i (after j (f .steps) (x .highs))
   class-high =
-      ap (λ (p : Pair). classOf i (machine (p .high .registers))) (h .corners)
+      ap (λ (t : State). classOf i (machine (t .registers))) (h .corners .high)
       ∙ class-by-registers i (after j (f .steps) (highs (boxIn (x .lows) (x .highs))))
       ∙ ap (λ (c : Choice). classOf i (after j (f .steps) c)) (highs-in (x .lows) (x .highs) (h .fits .paired))
 
@@ -185,17 +188,21 @@ module _ {j : Job} {m : Limits} {ps : List Path} {g : Group} {x : Lists} {s : St
   other-class e q = e (class-low ∙ sym (ap (classOf i) low-there) ∙ q ∙ ap (classOf i) high-there ∙ sym class-high)
 
   pub rest-starts : lowClass i x ≢ highClass i x
-      → Starts (probed (j .code) (j .memory) (f .steps) i (x .lows) (f .input)) (classOf i (after j (f .steps) (x .lows)))
+      → Starts (probed (j .code) (j .memory) (f .steps) i (x .highs) (f .input)) (classOf i (after j (f .steps) (x .lows)))
       (getD (x .lows) (f .input) 0) (getD (x .highs) (f .input) 0)
   rest-starts e = starts-in j (x .lows) (x .highs) (h .fits .paired) (f .steps) (f .used) i (f .input)
       (rw (h .box) (rest-cuttable (rests-there .1) (h .unspent) (h .fetched) (other-class e)))
 
   pub written-there : writes (ltb (a .low .reads) (m .inputs)) i ≡ written j rest i
   written-there =
-      (λ k. writes (ltb ((ap (λ (p : Pair). p .low .reads) (h .corners) ∙ ap (λ (b : Box). after j (f .steps) (lows b) .reads) (h .box)) k)
+      (λ k. writes (ltb ((ap (λ (t : State). t .reads) (h .corners .low) ∙ ap (λ (b : Box). after j (f .steps) (lows b) .reads) (h .box)) k)
       ((sym (h .fits .inputs) ∙ sym (length-in (x .lows) (x .highs) (h .fits .paired)) ∙ ap length (h .box)) k)) i)
 
-  -- the group one step later is within the job's limits
+  -- the instruction at the low corner
+  row : fetch (j .code) (a .low .pc) ≡ Row i
+  row = rw (ap (λ (t : State). t .pc) (h .corners .low), h .box) (h .fetched)
+
+  -- a turn from here is no move
   module _ {t : Position} (d : Turn j (resting ps g (f ∷ fs)) t) where
     taken : Reached j t
     taken = turns (h .reached) d
@@ -215,6 +222,10 @@ module _ {j : Job} {m : Limits} {ps : List Path} {g : Group} {x : Lists} {s : St
       let q = h .fetched in
       cc
 
+  -- its class hangs on the fork's input
+  rest-along : OneInput (rest .box) (f .input) (classAt j (f .steps) i)
+  rest-along = rw rest-is (rest-one (rests-there .1) (h .unspent))
+
   -- the group one step later is within the job's limits
   next-steps : f .steps + 1 ≤ j .limit
   next-steps =
@@ -223,8 +234,8 @@ module _ {j : Job} {m : Limits} {ps : List Path} {g : Group} {x : Lists} {s : St
         | yes e ↦ within-limit j (h .fits .sound) (takes-whole r (h .unspent) (h .fetched) e)
         | no e ↦ (
             let b = rest .box in
-            let o : OneInput b (f .input) (classAt j (f .steps) i) = rw rest-is (rest-one r (h .unspent)) in
-            within-limit j (h .fits .sound) (takes-first r (h .unspent) (h .fetched) (edge-exists b (rest-proper r) (one-input-convex b o) e .1)))
+            within-limit j (h .fits .sound)
+            (takes-first r (h .unspent) (h .fetched) (edge-exists b (rest-proper r) (one-input-convex b rest-along) e .1)))
       ]
 
   pub rest-steps : f .steps + 1 ≤ m .steps
@@ -254,15 +265,10 @@ module _ {j : Job} {m : Limits} {ps : List Path} {g : Group} {x : Lists} {s : St
     held-whole y q =
         let r = resumed m f s i a b in
         let reached : Reached j (running ps (groupOf whole r) (forksOf whole r)) = rw (z, written-there, h .box) (taken turn-whole) in
-        let v = boxIn (x .lows) (x .highs) in
-        let low-pc : fetch (j .code) (cornersAfter j v (f .steps) .low .pc) ≡ Row i = rw (← (h .box)) at (h .fetched) in
-        let e = h .fits .paired in
         record {
           fits = fits-again (h .fits) refl refl y;
           reached = reached;
-          corners = λ _. q
-              ∙ (λ k. advanced (sym (lows-in (x .lows) (x .highs) e) k) (sym (highs-in (x .lows) (x .highs) e) k) i (h .corners k))
-              ∙ corners-next j v (f .steps) _ i (reached-represents (h .fits .sound) reached .1 .good) low-pc;
+          corners = λ _. rw q (corners-next j (x .lows) (x .highs) (f .steps) _ (h .fits .paired) (reached-represents (h .fits .sound) reached .1 .good) row (h .corners));
           count = h .count;
         }
 
@@ -276,16 +282,18 @@ module _ {j : Job} {m : Limits} {ps : List Path} {g : Group} {x : Lists} {s : St
         omega (arith, p, q, ap (weight j) (unmoved turn-whole), work-running j whole r refl refl)
 
   -- the part below a cut
-  module _ (y : Lists) (b : Corners) (q : ℕ)
-      (p : Parted (probed (j .code) (j .memory) (f .steps) i (x .lows) (f .input)) (classOf i (after j (f .steps) (x .lows))) (f .input)
-      (x .lows) (x .highs) (y .lows) (y .highs) q)
+  module _ (y : Lists) (b : Corners) (q : ℕ) (l : y .lows ≡ x .lows)
+      (p : Parted (probed (j .code) (j .memory) (f .steps) i (x .highs) (f .input)) (classOf i (after j (f .steps) (x .lows))) (f .input)
+      (x .lows) (x .highs) (y .highs) q)
       (z : forksIn (y .table) (s .forks) ≡ withRest f (q + 1) ∷ fs) where
     below-box : boxIn (y .lows) (y .highs) ≡ below (rest .box) (f .input) q
-    below-box = parted-below j (x .lows) (x .highs) (h .fits .paired) (f .steps) (f .used) i (f .input) p
-        ∙ ap (λ (b : Box). below b (f .input) q) (h .box)
+    below-box = rw l (parted-below (h .fits .paired) p) ∙ ap (λ (b : Box). below b (f .input) q) (h .box)
 
     edge : EdgeAt j rest i (f .input) q
-    edge = rw (h .box) at (parted-edge j (x .lows) (x .highs) (h .fits .paired) (f .steps) (f .used) i (f .input) p)
+    edge =
+        let r = rests-there .1 in
+        rw (h .box) at (parted-edge j (x .lows) (x .highs) (h .fits .paired) (f .steps) (f .used) i (f .input) (rw (h .box) (rest-proper r))
+        (rw (h .box) rest-along) p)
 
     turn-first : Turn j (resting ps g (f ∷ fs))
         (running ps (later rest (written j rest i + 1) (below (rest .box) (f .input) q)) (shorten f q ∷ fs))
@@ -295,17 +303,18 @@ module _ {j : Job} {m : Limits} {ps : List Path} {g : Group} {x : Lists} {s : St
     shortened = z ∙ rw (h .unspent)
 
     pub held-first : length (y .table) ≡ length (x .table)
-        → cornersIn y b ≡ together (y .lows) (y .highs) (j .code) (f .steps + 1) (starting (j .memory))
+        → cornersIn y b ≡ advanced (x .lows) (y .highs) i (withHigh (j .code) (j .memory) (f .steps) (y .highs) (cornersIn x a))
         → Held j m ps y (resumed m f s i a b)
-    held-first l d =
-        let fits = fits-parted (h .fits) p l in
+    held-first t d =
+        let fits = fits-parted (h .fits) l p t in
         let r = resumed m f s i a b in
         let reached : Reached j (running ps (groupOf y r) (forksOf y r)) = rw (shortened, written-there, below-box) (taken turn-first) in
+        let within : Within (boxIn (y .lows) (y .highs)) (boxIn (x .lows) (x .highs)) = rw (below-box, h .box) (below-within (edge .splits)) in
         record {
           fits = fits;
           reached = reached;
-          corners = λ _. d
-              ∙ replayed-to j (y .lows) (y .highs) (f .steps + 1) _ (fits .paired) (reached-represents (fits .sound) reached .1 .good);
+          corners = λ _. rw (d, ← l) (corners-next j (y .lows) (y .highs) (f .steps) _ (fits .paired) (reached-represents (fits .sound) reached .1 .good) row
+              (corners-below j (x .lows) (x .highs) (y .lows) (y .highs) (f .steps) (h .fits .paired) (fits .paired) l within (h .corners)));
           count = h .count;
         }
 
@@ -343,12 +352,11 @@ module _ {j : Job} {m : Limits} {x : Lists} {s : Standing} (h : AtRest j m x s) 
     pub take-used : entryWords * (f .used + (writes (ltb (a .low .reads) (m .inputs)) i + 1)) ≤ length (x .table)
     take-used = rw k (rest-used rest-held)
 
-    pub takeable : m .steps < 2 ^ 64 → Takeable (j .code) (j .memory) i (s .forks - 1) (f .input) (f .steps) rest-lists
-    takeable l = record {
+    pub takeable : Takeable (j .code) (j .memory) i (s .forks - 1) (f .input) (f .steps) rest-lists
+    takeable = record {
       paired = rest-held .fits .paired;
       inside = omega (arith, ap (λ (e : Fork). e .input) k, top-inside (h .held) (h .running) (h .some), p);
       entry = top-entry (h .held) (h .running) (h .some);
-      steps-fit = omega (arith, take-steps);
       starts = λ e. rw (k, class-low rest-held) (rest-starts rest-held e);
     }
 
@@ -372,8 +380,8 @@ module _ {j : Job} {m : Limits} {x : Lists} {s : Standing} (h : AtRest j m x s) 
         let parted = rw (k, class-low rest-held) at (t .parted) in
         let forks = forks-at (v .table) (s .forks) (h .some) (t .forks) in
         rw k (record {
-          held = held-first rest-held v c (t .edge) parted forks l (rw k at (t .corners));
+          held = held-first rest-held v c (t .edge) (t .lows) parted forks l (rw k at (t .corners));
           paths = refl;
           going = refl;
-          less = work-first rest-held v c (t .edge) parted forks x resting-work;
+          less = work-first rest-held v c (t .edge) (t .lows) parted forks x resting-work;
         }))

@@ -1,7 +1,7 @@
 -- What is known where the explorer's lists hold a state of the engine.
 -- Assumes nothing.
 use mathlib.Core.Path.{_≡_, refl, sym, ap, _∙_}
-use mathlib.Core.Bool.{Bool, true, false, cond}
+use mathlib.Core.Bool.{true, false, cond}
 use mathlib.Core.List.{List}
 use Prim.Native.Nat.{ℕ, _+_, _*_, _≤_, _<_}
 use native.Mathlib.Omega.{arith}
@@ -14,17 +14,13 @@ use Rattle.forks.specs.Turn.{Position, running, Turn, Reached, turns, stateOf}
 use Rattle.forks.proofs.Table.{forks-count}
 use Rattle.boxes.proofs.TwoLists.{length-in}
 use Rattle.forks.proofs.Positions.{reached-represents, turn-represents, work-falls, depth}
-use Rattle.lockstep.specs.Together.{Pair}
+use Rattle.riscu.specs.Machine.{State}
 use Rattle.decide.proofs.Decisions.{Stands}
 use Rattle.decide.specs.declared.Limits.{Limits}
 use Rattle.cuts.specs.Forking.{Parted}
 use Rattle.explorer.specs.Held.{Lists, groupOf, forksOf, usedOf, Fits, Held, groupsLeft, work}
 use Rattle.explorer.specs.declared.Standing.{Standing}
 use Rattle.corners.specs.Good.{weight}
-
--- a flag is not both
-pub not-both : {A : Type 0} {b : Bool} → b ≡ false → b ≡ true → A
-not-both f t = let u : _≡_ {A = ℕ} 0 1 = cc in absurd (omega arith)
 
 -- lists as long as those that fit, fit as well
 pub fits-again : {j : Job} {m : Limits} {ls hs t ls′ hs′ t′ : List ℕ} → Fits j m ls hs t → length ls′ ≡ length ls → length hs′ ≡ length hs
@@ -39,9 +35,9 @@ fits-again f p q r = record {
 }
 
 -- so do those of a box that is cut
-pub fits-parted : {j : Job} {m : Limits} {ls hs t ls′ hs′ t′ : List ℕ} {f : ℕ → ℕ} {k i q : ℕ} → Fits j m ls hs t
-    → Parted f k i ls hs ls′ hs′ q → length t′ ≡ length t → Fits j m ls′ hs′ t′
-fits-parted {hs = hs} {i = i} {q = q} f p = fits-again f (ap length (p .lows)) (ap length (p .highs) ∙ length-set hs i q)
+pub fits-parted : {j : Job} {m : Limits} {ls hs t ls′ hs′ t′ : List ℕ} {f : ℕ → ℕ} {k i q : ℕ} → Fits j m ls hs t → ls′ ≡ ls
+    → Parted f k i ls hs hs′ q → length t′ ≡ length t → Fits j m ls′ hs′ t′
+fits-parted {hs = hs} {i = i} {q = q} f e p = fits-again f (ap length e) (ap length (p .highs) ∙ length-set hs i q)
 
 module _ {j : Job} {m : Limits} {ps : List Path} {x : Lists} {s : Standing} (h : Held j m ps x s) (e : s .running ≡ true) where
   pub at-group : Reached j (running ps (groupOf x s) (forksOf x s))
@@ -59,10 +55,10 @@ module _ {j : Job} {m : Limits} {ps : List Path} {x : Lists} {s : Standing} (h :
         inputs = sym (h .fits .inputs) ∙ sym (length-in (x .lows) (x .highs) (h .fits .paired));
         steps = refl;
         used = refl;
-        pc = ap (λ (p : Pair). p .low .pc) c;
-        reads = ap (λ (p : Pair). p .low .reads) c;
-        low-registers = ap (λ (p : Pair). p .low .registers) c;
-        high-registers = ap (λ (p : Pair). p .high .registers) c;
+        pc = ap (λ (t : State). t .pc) (c .low);
+        reads = ap (λ (t : State). t .reads) (c .low);
+        low-registers = ap (λ (t : State). t .registers) (c .low);
+        high-registers = ap (λ (t : State). t .registers) (c .high);
       }
 
   -- each fork has taken an entry

@@ -1,13 +1,12 @@
 -- A turn that goes straight on.
 -- Assumes nothing.
-use mathlib.Core.Path.{_≡_, refl, sym, _∙_}
+use mathlib.Core.Path.{_≡_, refl}
 use mathlib.Core.Bool.{true}
 use mathlib.Core.List.{List}
 use Prim.Native.Nat.{ℕ, _+_, _*_, _≤_, _<_}
 use native.Mathlib.Omega.{arith}
 use lib.Dec.{ltb}
 use lib.ListN.{length}
-use Rattle.boxes.specs.Boxes.{Box, lows, highs}
 use Rattle.riscu.specs.Machine.{fetch}
 use Rattle.riscu.specs.declared.Instruction.{Instruction}
 use Rattle.riscu.specs.declared.Decoded.the-variants.{Row}
@@ -17,11 +16,12 @@ use Rattle.listing.specs.Listing.{Path, later}
 use Rattle.forks.specs.Stack.{written}
 use Rattle.forks.specs.Turn.{running, Turn, straight, stateOf}
 use Rattle.calls.specs.Limits.{entryWords}
+use Rattle.forks.specs.Table.{groupIn}
 use Rattle.boxes.specs.Cuts.{boxIn}
 use Rattle.boxes.proofs.TwoLists.{lows-in, highs-in}
 use Rattle.forks.proofs.Positions.{reached-represents, within-limit}
-use Rattle.lockstep.specs.Together.{Machines, advanced, cornersAfter}
-use Rattle.lockstep.proofs.LockStep.{advanced-after}
+use Rattle.lockstep.specs.Together.{Pair, Machines, advanced, AtCorners}
+use Rattle.lockstep.proofs.LockStep.{advanced-at}
 use Rattle.decide.proofs.Says.{says-steps}
 use Rattle.decide.specs.declared.Limits.{Limits}
 use Rattle.decide.specs.declared.Decision.the-variants.{Steps}
@@ -32,9 +32,11 @@ use Rattle.explorer.proofs.Stands.{stands, turned, lighter, work-runnin
 use Rattle.corners.specs.Good.{Good, weight}
 
 -- one instruction further at both corners, where the group one step later is good
-pub corners-next : (j : Job) (b : Box) (n u : ℕ) (i : Instruction) → Good j (record { box = b; steps = n + 1; used = u })
-    → fetch (j .code) (cornersAfter j b n .low .pc) ≡ Row i → advanced (lows b) (highs b) i (cornersAfter j b n) ≡ cornersAfter j b (n + 1)
-corners-next j b n u i g f = advanced-after j b (g .sound) n f (g .smooth n (omega arith))
+pub corners-next : (j : Job) (ls hs : List ℕ) (n u : ℕ) {i : Instruction} {p : Pair} → length ls ≡ length hs
+    → Good j (groupIn ls hs (n + 1) u) → fetch (j .code) (p .low .pc) ≡ Row i → AtCorners j (boxIn ls hs) n p
+    → AtCorners j (boxIn ls hs) (n + 1) (advanced ls hs i p)
+corners-next j ls hs n u e g f a =
+    rw (lows-in ls hs e, highs-in ls hs e) at (advanced-at j (boxIn ls hs) (g .sound) (g .smooth n (omega arith)) f a)
 
 module _ {j : Job} {m : Limits} {ps : List Path} {x : Lists} {s : Standing} (h : Held j m ps x s) (e : s .running ≡ true) where
   -- the entries that a step takes for its writes
@@ -56,15 +58,12 @@ module _ {j : Job} {m : Limits} {ps : List Path} {x : Lists} {s : Standing} (h :
         → Held j m ps (moved x y) (stepped m s i a)
     held-straight y a q =
         let g = reached-represents (h .fits .sound) (turned h e turn) .1 .good in
-        let f = says-steps (stands h e) d .1 in
-        let b = boxIn (x .lows) (x .highs) in
+        let k = stands h e in
+        let row : fetch (j .code) (s .at .low .pc) ≡ Row i = rw (k .pc) (says-steps k d .1) in
         record {
           fits = h .fits;
           reached = rw (written-is i) (turned h e turn);
-          corners = λ _. q
-              ∙ (λ k. advanced (sym (lows-in (x .lows) (x .highs) (h .fits .paired)) k) (sym (highs-in (x .lows) (x .highs) (h .fits .paired)) k) i
-              (h .corners e k))
-              ∙ corners-next j b (s .steps) _ i g f;
+          corners = λ _. rw q (corners-next j (x .lows) (x .highs) (s .steps) _ (h .fits .paired) g row (h .corners e));
           count = h .count;
         }
 

@@ -1,88 +1,61 @@
 -- Straight steps one after another.
 -- Assumes nothing.
 use mathlib.Core.Path.{_≡_, refl, ap}
-use mathlib.Core.Bool.{Bool, true, false, cond}
+use mathlib.Core.Bool.{true}
 use mathlib.Core.List.{List}
-use Prim.Native.Nat.{ℕ, _+_, _-_, _≤_}
+use Prim.Native.Nat.{ℕ, _≤_}
 use native.Mathlib.Omega.{arith}
-use lib.Dec.{eqb, ltb}
-use borrow.Author.Tests.{ltb-false}
-use Rattle.boxes.proofs.Lists.{by-test}
-use Rattle.riscu.specs.Machine.{badPc, fetch}
-use Rattle.riscu.specs.declared.At.{At}
-use Rattle.riscu.specs.declared.Instruction.{Instruction}
-use Rattle.riscu.specs.declared.Decoded.{Decoded}
-use Rattle.riscu.specs.declared.Decoded.the-variants.{Row, NoRow}
-use Rattle.listing.specs.Ending.{points, writes}
-use Rattle.decide.specs.Corner.{cornerView, verdict, sameClass, onward, unlessEnds, rowDecision, decision}
+use Rattle.listing.specs.Group.{Job}
 use Rattle.decide.specs.declared.Limits.{Limits}
-use Rattle.decide.specs.declared.Used.{Used}
-use Rattle.decide.specs.declared.Verdict.{Verdict}
-use Rattle.decide.specs.declared.Verdict.the-variants.{Ends, Passes}
-use Rattle.decide.specs.declared.Decision.{Decision}
-use Rattle.decide.specs.declared.Decision.the-variants.{Ended, Steps, Forks}
 use Rattle.lockstep.specs.Together.{Machines}
-use Rattle.lockstep.specs.declared.Corners.{Corners}
-use Rattle.straight.specs.Stepped.{Decided}
-use Rattle.explorer.specs.Held.{usedOf, further}
-use Rattle.explorer.specs.Explored.{RunsOn}
+use Rattle.pages.specs.declared.Window.{Window}
+use Rattle.straight.specs.Stepped.{Place, place, StraightRun, none, more}
+use Rattle.explorer.specs.Held.{Lists, usedOf, standing, further, work}
+use Rattle.explorer.specs.Explored.{Explored, RunsOn}
 use Rattle.explorer.specs.declared.Standing.{Standing}
+use Rattle.boxes.proofs.Lists.{not-both}
+use Rattle.explorer.proofs.Stands.{work-running}
 use Rattle.explorer.proofs.Explored.{explored-straight}
 
--- a step that is decided on takes no more entries than are left
-module _ (entries : ℕ) (left : Bool) where
-  abbrev Within : Decision → Type 0
-  Within (Ended e) = Unit {0}
-  Within (Steps i) = writes left i ≤ entries
-  Within (Forks i) = Unit {0}
+module _ {j : Job} {m : Limits} {w : Window} {x : Lists} {report : List ℕ} {s : Standing} (e : Explored j m w x report s)
+    (g : s .going ≡ true) (r : s .running ≡ true) where
+  -- a group that goes on is told by its numbers
+  abbrev here : Standing
+  here = standing true (s .steps) (s .used) (s .forks) (s .paths) (s .at)
 
-  onward-within : (same : Bool) (i : Instruction) → Within (onward entries left same i)
-  unfolding onward
-  onward-within same i = by-test (ltb entries (writes left i + cond same 0 1)) (λ t. rw t tt) (λ t. rw t (go same t))
-    where
-      go : (b : Bool) → ltb entries (writes left i + cond b 0 1) ≡ false → Within (cond b (Steps i) (Forks i))
-      go true t = omega (arith, ltb-false entries (writes left i + 0) t)
-      go false t = tt
+  same : Explored j m w x report here
+  same = record {
+    held = record {
+      fits = e .held .fits;
+      reached = rw r at (e .held .reached);
+      corners = λ _. e .held .corners r;
+      count = e .held .count;
+    };
+    paged = e .paged;
+    written = e .written;
+    within = e .within;
+    before = λ _. e .before r;
+    stopped = λ z. not-both z refl;
+  }
 
-  unless-within : (d : Decision) (v : Verdict) → Within d → Within (unlessEnds d v)
-  unfolding unlessEnds
-  unless-within d (Ends e) k = tt
-  unless-within d Passes k = k
+  same-work : work j x here ≤ work j x s
+  same-work = omega (arith, work-running j x s g r, work-running j x here refl refl)
 
-  row-within : (l h : List ℕ) (d : Decoded) → Within (rowDecision entries left l h d)
-  unfolding rowDecision
-  row-within l h NoRow = tt
-  row-within l h (Row i) =
-      unless-within (onward entries left (sameClass i l h) i) (verdict (points (cornerView l h) i)) (onward-within (sameClass i l h) i)
+-- where straight steps from s have come to
+abbrev reached : Standing → Place → Standing
+reached s q = standing true (q .used .steps) (q .used .entries) (s .forks) (s .paths) (q .at)
 
-decision-within : (code : List ℕ) (m : Limits) (u : Used) (a : At) (l h : List ℕ)
-    → Within (m .entries - u .entries) (ltb (a .reads) (m .inputs)) (decision code m u a l h)
-unfolding decision
-decision-within code m u a l h =
-    by-test (eqb (u .steps) (m .steps)) (λ s. rw s tt) (λ s. rw s
-    (by-test (badPc code (a .pc)) (λ p. rw p tt) (λ p. rw p
-    (row-within (m .entries - u .entries) (ltb (a .reads) (m .inputs)) l h (fetch code (a .pc))))))
-
-pub decided-within : {code : List ℕ} {m : Limits} {u : Used} {a b : Corners} {x y : Machines} {n : ℕ} → Decided code m u a x b y n
-    → n ≤ m .entries - u .entries
-decided-within {code} {m} {u} {a} {x = x} d =
-    omega (arith, rw (d .steps) at (decision-within code m u (a .low) (x .low) (x .high)), d .takes)
-
-pub runs-none : {code : List ℕ} {m : Limits} {s : Standing} {x : Machines} → RunsOn code m s x s x
-runs-none = record { onto = λ j w ls hs table report c e g r. record { explored = e; going = g; running = r; less = omega arith; paths = refl } }
-
--- machines that have not moved
-pub runs-left : {code : List ℕ} {m : Limits} {s r : Standing} {x y z : Machines} → RunsOn code m s x r y → z ≡ y → RunsOn code m s x r z
-runs-left k e = rw e k
-
--- one step more
-pub runs-more : {code : List ℕ} {m : Limits} {s r : Standing} {x y z : Machines} {b : Corners} {n : ℕ} → RunsOn code m s x r y
-    → Decided code m (usedOf r) (r .at) y b z n → RunsOn code m s x (further r n b) z
-runs-more {r = r} {z = z} {b = b} {n = n} k d =
-    record {
-      onto = λ j w ls hs table report c e g f.
-          let a = k .onto j w ls hs table report c e g f in
-          let t = explored-straight (record { explored = a .explored; going = a .going }) (a .running) (d .instruction) (rw c (d .steps)) z
-          (further r n b) (ap (λ (q : ℕ). further r q b) (d .takes)) (d .moves ls hs) in
-          record { explored = t .explored; going = refl; running = refl; less = omega (arith, t .less, a .less); paths = a .paths };
-    }
+pub runs-on : {code : List ℕ} {m : Limits} (s : Standing) {x : Machines} {q : Place} → StraightRun code m (place (usedOf s) (s .at) x) q
+    → RunsOn code m s x (reached s q) (q .machines)
+runs-on s none = record {
+  onto = λ j w ls hs table report c e g r.
+      record { explored = same e g r; going = refl; running = refl; less = same-work e g r; paths = refl };
+}
+runs-on s (more {u = u} {a = a} {b = b} {x = y} {y = z} {w = n} r d) = record {
+  onto = λ j w ls hs table report c e g f.
+      let k = runs-on s r .onto j w ls hs table report c e g f in
+      let here = reached s (place u a y) in
+      let t = explored-straight (record { explored = k .explored; going = refl }) refl (d .instruction) (rw c (d .steps)) z
+      (further here n b) (ap (λ (v : ℕ). further here v b) (d .takes)) (d .moves ls hs) in
+      record { explored = t .explored; going = refl; running = refl; less = omega (arith, t .less, k .less); paths = refl };
+}

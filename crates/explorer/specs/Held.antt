@@ -3,10 +3,11 @@ use mathlib.Core.Path.{_≡_}
 use mathlib.Core.Logic.{_⊎_, _≢_}
 use mathlib.Core.Bool.{Bool, true, false, cond}
 use mathlib.Core.List.{List, _∷_}
-use Prim.Native.Nat.{ℕ, _+_, _-_, _*_, _^_, _≤_, _<_}
+use Prim.Native.Nat.{ℕ, _+_, _-_, _*_, _≤_, _<_}
 use lib.Dec.{ltb}
 use lib.ListN.{length, getD, take}
 use denote.Ref.{RefT, now}
+use Rattle.riscu.specs.Machine.{run, start}
 use Rattle.riscu.specs.declared.Instruction.{Instruction}
 use Rattle.listing.specs.Group.{Job, Group, classOf}
 use Rattle.listing.specs.Ending.{writes}
@@ -18,7 +19,7 @@ use Rattle.calls.specs.Limits.{entryWords}
 use Rattle.forks.specs.Table.{groupIn, forkIn, forksIn, HasEntry, OnTop}
 use Rattle.boxes.specs.Cuts.{boxIn}
 use Rattle.riscu.specs.Lent.{LentList}
-use Rattle.lockstep.specs.Together.{Pair, Machines, machines, both, machinesBefore, machinesAfter, advanced, together, starting, cornersAfter}
+use Rattle.lockstep.specs.Together.{Pair, Machines, machines, both, machinesBefore, machinesAfter, advanced, pair, AtCorners}
 use Rattle.cuts.specs.Cutting.{probed, Starts}
 use Rattle.cuts.specs.Forking.{Parted}
 use Rattle.decide.specs.Corner.{machine, decision}
@@ -74,6 +75,10 @@ usedOf s = record { steps = s .steps; entries = s .used }
 abbrev pub cornersIn : Lists → Corners → Pair
 cornersIn x a = both a (x .machines)
 
+-- below a cut the low corner and the tags stay, and the high corner is run to step n on the highs of the part
+abbrev pub withHigh : List ℕ → List ℕ → ℕ → List ℕ → Pair → Pair
+withHigh code memory n hs p = pair (p .low) (run code hs n (start memory)) (p .tags)
+
 -- the decision on the group at hand, and the class at each corner
 abbrev pub decisionOn : List ℕ → Limits → Lists → Standing → Decision
 decisionOn code m x s = decision code m (usedOf s) (s .at .low) (x .machines .low) (x .machines .high)
@@ -101,7 +106,7 @@ pub record Fits (j : Job) (m : Limits) (ls hs table : List ℕ) : Type 0 where
 pub record Held (j : Job) (m : Limits) (ps : List Path) (x : Lists) (s : Standing) : Type 0 where
   pub fits : Fits j m (x .lows) (x .highs) (x .table)
   pub reached : Reached j (positionAs (s .running) ps (groupOf x s) (forksOf x s))
-  pub corners : s .running ≡ true → cornersIn x (s .at) ≡ cornersAfter j (boxIn (x .lows) (x .highs)) (s .steps)
+  pub corners : s .running ≡ true → AtCorners j (boxIn (x .lows) (x .highs)) (s .steps) (cornersIn x (s .at))
   pub count : s .paths ≡ length ps
 
 -- other machines and tags at the same box and table
@@ -124,7 +129,7 @@ pub record Rest (j : Job) (m : Limits) (ps : List Path) (g : Group) (x : Lists) 
   pub some : 0 < s .forks
   pub unspent : latest x s .spent ≡ false
   pub box : boxIn (x .lows) (x .highs) ≡ left (latest x s) (g .box) .box
-  pub corners : cornersIn x a ≡ cornersAfter j (boxIn (x .lows) (x .highs)) (latest x s .steps)
+  pub corners : AtCorners j (boxIn (x .lows) (x .highs)) (latest x s .steps) (cornersIn x a)
   pub fetched : Fetches j (left (latest x s) (g .box)) i
   pub count : s .paths ≡ length ps
 
@@ -195,9 +200,8 @@ pub record Takeable (code memory : List ℕ) (i : Instruction) (n input steps : 
   pub paired : length (x .lows) ≡ length (x .highs)
   pub inside : input < length (x .lows)
   pub entry : HasEntry (x .table) n
-  pub steps-fit : steps + 1 < 2 ^ 64
   pub starts : lowClass i x ≢ highClass i x
-      → Starts (probed code memory steps i (x .lows) input) (lowClass i x) (getD (x .lows) input 0) (getD (x .highs) input 0)
+      → Starts (probed code memory steps i (x .highs) input) (lowClass i x) (getD (x .lows) input 0) (getD (x .highs) input 0)
 
 -- It is taken up: whole where the class is the same at both corners, and otherwise its first part.
 
@@ -207,12 +211,13 @@ pub record WholeTaken (i : Instruction) (n : ℕ) (x : Lists) (a : Corners) (y :
   pub forks : OnTop (spend (forkIn (x .table) n)) (x .table) n (y .table)
   pub corners : cornersIn y b ≡ advanced (x .lows) (x .highs) i (cornersIn x a)
 
-pub record FirstTaken (code memory : List ℕ) (i : Instruction) (n input steps : ℕ) (x y : Lists) (b : Corners) : Type 0 where
+pub record FirstTaken (code memory : List ℕ) (i : Instruction) (n input steps : ℕ) (x : Lists) (a : Corners) (y : Lists) (b : Corners) : Type 0 where
   pub edge : ℕ
-  pub parted : Parted (probed code memory steps i (x .lows) input) (lowClass i x) input (x .lows) (x .highs) (y .lows) (y .highs) edge
+  pub lows : y .lows ≡ x .lows
+  pub parted : Parted (probed code memory steps i (x .highs) input) (lowClass i x) input (x .lows) (x .highs) (y .highs) edge
   pub forks : OnTop (withRest (forkIn (x .table) n) (edge + 1)) (x .table) n (y .table)
-  pub corners : cornersIn y b ≡ together (y .lows) (y .highs) code (steps + 1) (starting memory)
+  pub corners : cornersIn y b ≡ advanced (x .lows) (y .highs) i (withHigh code memory steps (y .highs) (cornersIn x a))
 
 abbrev pub TakenUp : List ℕ → List ℕ → Instruction → ℕ → ℕ → ℕ → Lists → Corners → Lists → Corners → Type 0
 TakenUp code memory i n input steps x a y b =
-    ((lowClass i x ≡ highClass i x) × WholeTaken i n x a y b) ⊎ ((lowClass i x ≢ highClass i x) × FirstTaken code memory i n input steps x y b)
+    ((lowClass i x ≡ highClass i x) × WholeTaken i n x a y b) ⊎ ((lowClass i x ≢ highClass i x) × FirstTaken code memory i n input steps x a y b)

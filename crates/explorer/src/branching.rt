@@ -13,15 +13,15 @@ use decide::group::writes;
 use lockstep::Corners;
 use lockstep::tags::class_tag;
 use lockstep::together::advance;
-use lockstep::together::replay;
 use riscu::Decoded;
 use riscu::Instruction;
 use riscu::plain::Memory;
 use riscu::plain::Registers;
 use riscu::plain::fetch;
+use straight::replaying::replay;
 ghost use Rattle.explorer.specs.Held.{jobAt, jobBefore, listsAt, listsBefore, listsAfter, AtFork, AtRest, GoesOn, Takeable, TakenUp};
 
-// Cuts the box at the fork, notes the rest in the table, and goes on below the cut.
+// Cuts the box at the fork, notes the rest in the table, and goes on below the cut: the low corner stays, and `part` left the high one.
 pub(crate) fn fork_on(
     code: &[u32],
     memory: &Memory,
@@ -56,7 +56,7 @@ pub(crate) fn fork_on(
     let lo = lows[input];
     let hi = highs[input];
     let guesses = hint(i, low, high, lo, hi);
-    let edge = part(
+    let below = part(
         code,
         memory,
         high,
@@ -69,11 +69,12 @@ pub(crate) fn fork_on(
         s.steps,
         i,
     );
-    note(table, s.forks, input, lo, hi, edge, s.steps, s.used);
-    let to = replay(
-        code,
-        memory,
-        steps,
+    note(table, s.forks, input, lo, hi, below.edge, s.steps, s.used);
+    let l = at.low;
+    let h = below.high;
+    let from = Corners { low: l, high: h };
+    let to = advance(
+        i,
         low,
         lowmem,
         high,
@@ -82,6 +83,7 @@ pub(crate) fn fork_on(
         tagmem,
         lows,
         highs,
+        from,
     );
     Standing {
         going: true,
@@ -130,7 +132,7 @@ fn take_rest(
     let lo = lows[input];
     let hi = highs[input];
     let guesses = hint(i, low, high, lo, hi);
-    let edge = part(
+    let first = part(
         code,
         memory,
         high,
@@ -143,11 +145,12 @@ fn take_rest(
         steps,
         i,
     );
-    rise(table, below, edge, hi);
-    replay(
-        code,
-        memory,
-        steps + 1,
+    rise(table, below, first.edge, hi);
+    let l = at.low;
+    let h = first.high;
+    let from = Corners { low: l, high: h };
+    advance(
+        i,
         low,
         lowmem,
         high,
@@ -156,6 +159,7 @@ fn take_rest(
         tagmem,
         lows,
         highs,
+        from,
     )
 }
 

@@ -4,8 +4,7 @@ use decide::Limits;
 use decide::Used;
 use riscu::plain::Memory;
 use riscu::plain::Registers;
-use straight::Straight;
-use straight::steps::straight_step;
+use straight::steps::straight_steps;
 ghost use Rattle.lockstep.specs.Together.{machinesBefore, machinesAfter};
 ghost use Rattle.explorer.specs.Explored.{RunsOn};
 
@@ -19,45 +18,40 @@ pub(crate) fn run_straight(
     highmem: &mut Memory,
     tags: &mut Registers,
     tagmem: &mut Memory,
-    from: Standing,
+    s: Standing,
 ) -> Standing
     ensures { λ r.
         let x = machinesBefore low lowmem high highmem tags tagmem in
         let y = machinesAfter low lowmem high highmem tags tagmem in
-        ⌜ RunsOn (now (code .entry)) limits from x r y ⌝ }
+        ⌜ RunsOn (now (code .entry)) limits s x r y ⌝ }
 {
-    let mut s = from;
-    while s.steps < limits.steps {
-        let used = Used {
-            steps: s.steps,
-            entries: s.used,
-        };
-        let t = straight_step(
-            code,
-            limits,
-            used,
-            low,
-            lowmem,
-            high,
-            highmem,
-            tags,
-            tagmem,
-            s.at,
-        );
-        let Straight::Taken { at, writes } = t else {
-            return s;
-        };
-        let to = Standing {
-            going: true,
-            running: true,
-            more: false,
-            steps: s.steps + 1,
-            used: s.used + writes,
-            forks: s.forks,
-            paths: s.paths,
-            at,
-        };
-        s = to;
+    let used = Used {
+        steps: s.steps,
+        entries: s.used,
+    };
+    let from = s.at;
+    let r = straight_steps(
+        code,
+        limits,
+        used,
+        low,
+        lowmem,
+        high,
+        highmem,
+        tags,
+        tagmem,
+        from,
+    );
+    let u = r.used;
+    let at = r.at;
+    Standing {
+        going: true,
+        running: true,
+        more: false,
+        steps: u.steps,
+        used: u.entries,
+        forks: s.forks,
+        paths: s.paths,
+        at,
     }
-    s
 }

@@ -34,7 +34,7 @@ use Rattle.corners.specs.Good.{Sound, lowState, highState, cornersOf, weight}
 -- the tie: a step of the explorer leads from a state of the listing to a state of the listing
 pub turn-represents : {j : Job} {s t : Position} (n : ℕ) → Turn j s t → Represents j n s → Represents j (movesAfter s n) t
 turn-represents n (straight e f o) r = goes-straight r e f o
-turn-represents n (forking e f m) r = goes-forking r e f m
+turn-represents n (forking e f o m) r = goes-forking r e f o m
 turn-represents n (ending e) r = ends r e
 turn-represents n (dropping e) r = drops r e
 turn-represents n (whole-rest e f o) r = takes-whole r e f o
@@ -103,10 +103,8 @@ module _ {j : Job} {n : ℕ} {ps : List Path} {g : Group} where
           elim (ℕ-discrete (classOf i (lowState j g)) (classOf i (highState j g))) [
             | yes e ↦ (_, straight d (k .fetched) e)
             | no e ↦ (
-              _,
-              forking d (k .fetched)
-                  (edge-exists (g .box) (r .good .sound .proper) (one-input-convex (g .box) (now-one r d (k .fetched))) e .1),
-            )
+                let o = now-one r d (k .fetched) in
+                (_, forking d (k .fetched) o (edge-exists (g .box) (r .good .sound .proper) (one-input-convex (g .box) o) e .1)))
           ]
 
   -- something of the top fork is left

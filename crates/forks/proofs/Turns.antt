@@ -18,7 +18,7 @@ use Rattle.boxes.specs.Boxes.{Choice, _⋯_, Box, at, Proper, pieces, lows, hig
 use Rattle.boxes.specs.Cuts.{OneInput, below, above, Edge}
 use Rattle.boxes.proofs.Places.{nonempty}
 use Rattle.boxes.proofs.Choices.{lows-inside, highs-inside, inside-set}
-use Rattle.boxes.proofs.OneInput.{constant-corner, one-input-convex, one-input-within}
+use Rattle.boxes.proofs.OneInput.{constant-corner, one-input-convex, one-input-same, one-input-within}
 use Rattle.boxes.proofs.Cut.{cut-same, low-cut, high-cut, cut-narrow, proper-narrow, in-range, below-within, above-within, highs-above}
 use Rattle.boxes.proofs.Cut.{proper-below, proper-above}
 use Rattle.boxes.proofs.Partition.{pieces-partition, pieces-fork}
@@ -44,21 +44,34 @@ module _ {k : Choice → ℕ} {x : ℕ} (b : Box) (p : Proper b) (o : OneInput b
   same-corner : k (lows b) ≡ k (highs b) → Same b k
   same-corner e c d m n = constant-corner b p o e c m ∙ sym (constant-corner b p o e d n)
 
+  -- the other inputs may be at their lowest or at their highest
+  same-along : (v : ℕ) → x < length b → at (lows b) x ≤ v → v ≤ at (highs b) x → k (set (highs b) x v) ≡ k (set (lows b) x v)
+  same-along v y l h =
+      let t : at (set (lows b) x v) x ≡ v = getD-set-same (lows b) x v 0 (rw length-map y) in
+      let u : at (set (highs b) x v) x ≡ v = getD-set-same (highs b) x v 0 (rw length-map y) in
+      one-input-same b o (set (highs b) x v) (set (lows b) x v) (inside-set b (highs b) x v (highs-inside b p) l h)
+      (inside-set b (lows b) x v (lows-inside b p) l h) (u ∙ sym t)
+
   pub cuttable : k (lows b) ≢ k (highs b) → Cuttable k b x
   cuttable d =
-      let z = one-input-convex b o in
-      let s = edge-exists b p z d .1 .splits in
-      let h = at (highs b) x in
+      let s = edge-exists b p (one-input-convex b o) d .1 .splits in
       let y : x < length b = in-range b x (omega arith) in
-      let t : at (set (lows b) x h) x ≡ h = getD-set-same (lows b) x h 0 (rw length-map y) in
-      let lo = lows-inside b p in
       record {
         inside = y;
         wide = omega arith;
-        bottom = ap k (set-getD (lows b) x 0);
-        top =
-            λ e. d (sym (z (lows b) (highs b) (set (lows b) x h) lo (highs-inside b p)
-            (inside-set b (lows b) x h lo (omega arith) (omega arith)) (omega arith) (omega arith) (sym e)));
+        bottom = same-along (at (lows b) x) y (omega arith) (omega arith) ∙ ap k (set-getD (lows b) x 0);
+        top = λ e. d (sym e ∙ ap k (set-getD (highs b) x 0));
+      }
+
+  -- the edge that such a search finds
+  pub edge-along : {m : ℕ} → at (lows b) x ≤ m → m < at (highs b) x → k (set (highs b) x m) ≡ k (lows b)
+      → k (set (highs b) x (suc m)) ≢ k (lows b) → Edge k b x m
+  edge-along {m} l h c n =
+      let y : x < length b = in-range b x (omega arith) in
+      record {
+        splits = record { lowest = l; highest = h };
+        class = sym (same-along m y l (omega arith)) ∙ c;
+        next = λ e. n (same-along (suc m) y (omega arith) (omega arith) ∙ e);
       }
 
   module _ {m : ℕ} (e : Edge k b x m) where
@@ -118,7 +131,7 @@ module _ {j : Job} {n : ℕ} {ps : List Path} {g : Group} {fs : List Fork} (r : 
     goes-on = end-agrees j g (r .good) ∙ goes
 
     -- what is known of its instruction
-    known : Followed j (g .box) (g .steps) i × (needs g (viewOf j g) i ≤ j .entries - g .used)
+    pub known : Followed j (g .box) (g .steps) i × (needs g (viewOf j g) i ≤ j .entries - g .used)
     known =
         let k = continues j g goes-on in
         let e : k .instruction ≡ i = cc (k .fetched) in
@@ -127,9 +140,6 @@ module _ {j : Job} {n : ℕ} {ps : List Path} {g : Group} {fs : List Fork} (r : 
 
     pub now-one : OneInput (g .box) (inputOf j g i) (classAt j (g .steps) i)
     now-one = class-one j g (r .good) i (known .0 .settled)
-
-    pub fork-cuttable : ¬ OneClass j g i → Cuttable (classAt j (g .steps) i) (g .box) (inputOf j g i)
-    fork-cuttable = cuttable (g .box) (r .good .sound .proper) now-one
 
     needs-are : needs g (viewOf j g) i ≡ written j g i + cond (not (eqb (classOf i (lowState j g)) (classOf i (highState j g)))) 1 0
     unfolding needs
@@ -158,17 +168,15 @@ module _ {j : Job} {n : ℕ} {ps : List Path} {g : Group} {fs : List Fork} (r : 
         }
 
     -- The group goes on and forks: the part up to the edge is taken at once.
-    pub goes-forking : {m : ℕ} → EdgeAt j g i (inputOf j g i) m
-        → Running j (suc n) ps (later g (written j g i + 1) (below (g .box) (inputOf j g i) m)) (forkAt g (inputOf j g i) m ∷ fs)
+    pub goes-forking : {x m : ℕ} → OneInput (g .box) x (classAt j (g .steps) i) → EdgeAt j g i x m
+        → Running j (suc n) ps (later g (written j g i + 1) (below (g .box) x m)) (forkAt g x m ∷ fs)
     unfolding waitingOf
-    goes-forking {m} e =
+    goes-forking {x} {m} o e =
         let b = g .box in
-        let x = inputOf j g i in
         let p = r .good .sound .proper in
         let s = e .splits in
         let l = classOf i (lowState j g) in
         let h = classOf i (highState j g) in
-        let o = now-one in
         let w : needs g (viewOf j g) i ≡ written j g i + 1 = needs-are ∙ rw (ne-eqb l h (corners-differ b p o e)) in
         let f = forkAt g x m in
         let back : before f (below b x m) .box ≡ b = rw (set-set, cut-same) in

@@ -1,4 +1,5 @@
--- The explorer's steps, by the corners alone: a group that goes on straight, one that forks, one that ends; and between two groups a fork
+-- The explorer's steps, by the corners, and where a group forks along an input that its class hangs on: a group that goes on straight, one
+-- that forks, one that ends; and between two groups a fork
 -- with nothing left that goes, a rest taken up whole, and the first part of a rest.
 use mathlib.Core.Path.{_≡_}
 use mathlib.Core.Bool.{true, false}
@@ -8,7 +9,7 @@ use mathlib.Core.Logic.{_≢_}
 use Prim.Native.Nat.{ℕ, suc, _+_, _<_}
 use lib.ListN.{length, set}
 use Rattle.boxes.specs.Boxes.{Choice, Box, at, lows, highs}
-use Rattle.boxes.specs.Cuts.{below, Edge}
+use Rattle.boxes.specs.Cuts.{OneInput, below, Edge}
 use Rattle.riscu.specs.Machine.{fetch}
 use Rattle.riscu.specs.declared.Instruction.{Instruction}
 use Rattle.riscu.specs.declared.Decoded.the-variants.{Row}
@@ -17,7 +18,7 @@ use Rattle.listing.specs.Ending.{endBy}
 use Rattle.listing.specs.Listing.{Path, Progress, progress, later, pathOf, whole}
 use Rattle.listing.specs.declared.End.{End}
 use Rattle.forks.specs.Stack.{Fork, before, left, forkAt, shorten, spend, written, waitingOf, Running, Resting}
-use Rattle.corners.specs.Good.{lowState, highState, inputOf, cornersOf}
+use Rattle.corners.specs.Good.{lowState, highState, cornersOf}
 
 -- the explorer's position, at a group or between two: the paths so far, the group at hand (the current one, or the last one ended),
 -- the forks
@@ -40,21 +41,21 @@ OneClass j g i = classOf i (lowState j g) ≡ classOf i (highState j g)
 abbrev pub EdgeAt : Job → Group → Instruction → ℕ → ℕ → Type 0
 EdgeAt j g i x m = Edge (classAt j (g .steps) i) (g .box) x m
 
--- what a search for the edge of a class along input x has to start from: the class of the lowest choice is left on the way up
+-- what a search for the edge of a class along input x has to start from, the other inputs at their highest: the class of the lowest
+-- choice is left on the way up
 pub record Cuttable (k : Choice → ℕ) (b : Box) (x : ℕ) : Type 0 where
   pub inside : x < length b
   pub wide : at (lows b) x < at (highs b) x
-  pub bottom : k (set (lows b) x (at (lows b) x)) ≡ k (lows b)
-  pub top : k (set (lows b) x (at (highs b) x)) ≢ k (lows b)
+  pub bottom : k (set (highs b) x (at (lows b) x)) ≡ k (lows b)
+  pub top : k (set (highs b) x (at (highs b) x)) ≢ k (lows b)
 
 pub data Turn (j : Job) : Position → Position → Type 0 where
   straight : {ps : List Path} {g : Group} {fs : List Fork} {i : Instruction} → endBy j g (cornersOf j g) ≡ none → Fetches j g i
       → OneClass j g i
       → Turn j (running ps g fs) (running ps (later g (written j g i) (g .box)) fs)
-  forking : {ps : List Path} {g : Group} {fs : List Fork} {i : Instruction} {m : ℕ} → endBy j g (cornersOf j g) ≡ none → Fetches j g i
-      → EdgeAt j g i (inputOf j g i) m
-      → Turn j (running ps g fs)
-      (running ps (later g (written j g i + 1) (below (g .box) (inputOf j g i) m)) (forkAt g (inputOf j g i) m ∷ fs))
+  forking : {ps : List Path} {g : Group} {fs : List Fork} {i : Instruction} {x m : ℕ} → endBy j g (cornersOf j g) ≡ none → Fetches j g i
+      → OneInput (g .box) x (classAt j (g .steps) i) → EdgeAt j g i x m
+      → Turn j (running ps g fs) (running ps (later g (written j g i + 1) (below (g .box) x m)) (forkAt g x m ∷ fs))
   ending : {ps : List Path} {g : Group} {fs : List Fork} {e : End} → endBy j g (cornersOf j g) ≡ some e
       → Turn j (running ps g fs) (resting (ps ++ (pathOf g (cornersOf j g) e ∷ [])) g fs)
   dropping : {ps : List Path} {g : Group} {f : Fork} {fs : List Fork} → f .spent ≡ true

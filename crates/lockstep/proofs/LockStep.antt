@@ -1,45 +1,29 @@
 -- Lock step, one instruction at a time; and that on a box whose steps are smooth it is the runs at the two corners, and their tags.
 -- Assumes nothing.
-use mathlib.Core.Path.{_≡_, refl, sym, ap, _∙_}
+use mathlib.Core.Path.{_≡_, refl, ap, subst, _∙_}
 use mathlib.Core.List.{List}
-use Prim.Native.Nat.{ℕ, zero, suc, _+_, _-_, _≤_, _<_}
-use native.Mathlib.Nat.{zero-add, suc-add}
+use Prim.Native.Nat.{ℕ, zero, suc, _+_, _<_}
 use native.Mathlib.Numerals.{add-one}
 use native.Mathlib.Omega.{arith}
 use Rattle.boxes.specs.Boxes.{Choice, Box, lows, highs, Inside}
+use Rattle.boxes.specs.Cuts.{OneInput}
 use Rattle.boxes.proofs.Choices.{lows-inside, highs-inside}
-use Rattle.riscu.specs.Machine.{fetch, run, stepDecoded}
+use Rattle.riscu.specs.Machine.{State, fetch, run, step}
 use Rattle.riscu.specs.declared.Instruction.{Instruction}
-use Rattle.riscu.specs.declared.Decoded.{Decoded}
-use Rattle.riscu.specs.declared.Decoded.the-variants.{Row, NoRow}
-use Rattle.listing.specs.Group.{Job, Group, after}
-use Rattle.lockstep.specs.Together.{Pair, Machines, both, advanced, advancedBy, together, starting, Hangs, cornersAfter}
+use Rattle.riscu.specs.declared.Decoded.the-variants.{Row}
+use Rattle.listing.specs.Group.{Job, after, classOf}
+use Rattle.lockstep.specs.Together.{Pair, Machines, both, advanced, advancedBy, together, starting, Hangs, AtCorners}
 use Rattle.lockstep.specs.declared.Corners.{Corners}
-use Rattle.corners.specs.Smooth.{Smooth}
-use Rattle.corners.specs.Good.{Sound, inputOf}
-use Rattle.corners.specs.Tags.{tagsAt, tagDecoded, classTag}
+use Rattle.corners.specs.Smooth.{Settled, Smooth}
+use Rattle.corners.specs.Good.{Sound}
+use Rattle.corners.specs.Tags.{tagsAt}
+use Rattle.corners.proofs.Uniform.{class-uniform, whole-after, after-suc, uniform-start, uniform-step}
 
-module _ (lo hi : Choice) (code : List ℕ) (p : Pair) where
-  abbrev at : ℕ → Pair
-  at k = together lo hi code k p
-
-  abbrev on : Pair → Pair
-  on q = advancedBy lo hi (fetch code (q .low .pc)) q
-
-  pub one-more : (k : ℕ) {i : Instruction} (t u : Pair) → t ≡ at k → fetch code (t .low .pc) ≡ Row i → u ≡ advanced lo hi i t
-      → u ≡ at (k + 1)
-  unfolding together advancedBy
-  one-more k t u e f h = rw add-one (h ∙ ap (λ (d : Decoded). advancedBy lo hi d t) (sym f) ∙ ap on e)
-
-  stays : (k : ℕ) → fetch code (at k .low .pc) ≡ NoRow → (j : ℕ) → at (j + k) ≡ at k
-  unfolding together advancedBy
-  stays k f zero = rw zero-add
-  stays k f (suc j) = rw suc-add (ap on (stays k f j) ∙ ap (λ (d : Decoded). advancedBy lo hi d (at k)) f)
-
-  pub stopped : (k n : ℕ) (t : Pair) → k ≤ n → t ≡ at k → fetch code (t .low .pc) ≡ NoRow → t ≡ at n
-  stopped k n t l e f =
-      let q : n - k + k ≡ n = omega arith in
-      e ∙ sym (stays k (ap (λ (x : Pair). fetch code (x .low .pc)) (sym e) ∙ f) (n - k)) ∙ ap at q
+-- one step more
+pub one-more : (lo hi : Choice) (code : List ℕ) (p : Pair) (k : ℕ) (t u : Pair) → t ≡ together lo hi code k p
+    → u ≡ advancedBy lo hi (fetch code (t .low .pc)) t → u ≡ together lo hi code (k + 1) p
+unfolding together
+one-more lo hi code p k t u e h = rw add-one (h ∙ ap (λ (q : Pair). advancedBy lo hi (fetch code (q .low .pc)) q) e)
 
 module _ (j : Job) (b : Box) (sound : Sound j b) where
   low-in : Inside (lows b) b
@@ -48,36 +32,46 @@ module _ (j : Job) (b : Box) (sound : Sound j b) where
   high-in : Inside (highs b) b
   high-in = highs-inside b (sound .proper)
 
-  by-fetch : (n : ℕ) → Smooth j b n
-      → advancedBy (lows b) (highs b) (fetch (j .code) (after j n (lows b) .pc)) (cornersAfter j b n) ≡ cornersAfter j b (suc n)
-  unfolding after run stepDecoded advancedBy tagsAt tagDecoded
-  by-fetch n s = rw (s .followed .fetched (lows b) low-in, s .followed .fetched (highs b) high-in)
+  smooth-step : {n : ℕ} {p : Pair} (s : Smooth j b n) → AtCorners j b n p
+      → AtCorners j b (suc n) (advanced (lows b) (highs b) (s .instruction) p)
+  smooth-step {n} s a =
+      let i = s .instruction in
+      let f = s .followed .fetched in
+      record {
+        low = ap (step (lows b) i) (a .low) ∙ after-suc j b sound n (lows b) (f (lows b) low-in);
+        high = ap (step (highs b) i) (a .high) ∙ after-suc j b sound n (highs b) (f (highs b) high-in);
+        tags = rw (a .low, a .high) (uniform-step j b sound n s (a .tags));
+      }
+
+  smooth-fetch : {n : ℕ} {p : Pair} (s : Smooth j b n) → AtCorners j b n p → fetch (j .code) (p .low .pc) ≡ Row (s .instruction)
+  smooth-fetch s a = ap (λ (t : State). fetch (j .code) (t .pc)) (a .low) ∙ s .followed .fetched (lows b) low-in
 
   -- one straight step, where the low corner is at instruction i
-  pub advanced-after : (n : ℕ) {i : Instruction} → fetch (j .code) (after j n (lows b) .pc) ≡ Row i → Smooth j b n
-      → advanced (lows b) (highs b) i (cornersAfter j b n) ≡ cornersAfter j b (n + 1)
-  unfolding advancedBy
-  advanced-after n f s = rw add-one (ap (λ (d : Decoded). advancedBy (lows b) (highs b) d (cornersAfter j b n)) (sym f) ∙ by-fetch n s)
+  pub advanced-at : {n : ℕ} {i : Instruction} {p : Pair} → Smooth j b n → fetch (j .code) (p .low .pc) ≡ Row i → AtCorners j b n p
+      → AtCorners j b (n + 1) (advanced (lows b) (highs b) i p)
+  advanced-at {n} {i} {p} s f a =
+      let e : s .instruction ≡ i = cc (f, smooth-fetch s a) in
+      rw add-one (subst (λ (i : Instruction). AtCorners j b (suc n) (advanced (lows b) (highs b) i p)) e (smooth-step s a))
 
-  pub together-after : (n : ℕ) → ((m : ℕ) → m < n → Smooth j b m)
-      → together (lows b) (highs b) (j .code) n (cornersAfter j b 0) ≡ cornersAfter j b n
-  unfolding together
-  together-after zero s = refl
-  together-after (suc n) s =
-      ap (λ (q : Pair). advancedBy (lows b) (highs b) (fetch (j .code) (q .low .pc)) q) (together-after n (λ m h. s m (omega arith)))
-      ∙ by-fetch n (s n (omega arith))
-
-  starts : starting (j .memory) ≡ cornersAfter j b 0
+  starts : AtCorners j b 0 (starting (j .memory))
   unfolding starting after run tagsAt
-  starts = refl
+  starts = record { low = refl; high = refl; tags = uniform-start j b sound }
 
-  -- what `replay` leaves, where the steps before n are smooth on the box
+  by-fetch : {n : ℕ} {p : Pair} → Smooth j b n → AtCorners j b n p
+      → AtCorners j b (suc n) (advancedBy (lows b) (highs b) (fetch (j .code) (p .low .pc)) p)
+  unfolding advancedBy
+  by-fetch s a = rw (smooth-fetch s a) (smooth-step s a)
+
+  -- what a replay leaves, where the steps before n are smooth on the box
   pub replayed : (n : ℕ) → ((m : ℕ) → m < n → Smooth j b m)
-      → together (lows b) (highs b) (j .code) n (starting (j .memory)) ≡ cornersAfter j b n
-  replayed n s = ap (together (lows b) (highs b) (j .code) n) starts ∙ together-after n s
+      → AtCorners j b n (together (lows b) (highs b) (j .code) n (starting (j .memory)))
+  unfolding together
+  replayed zero s = starts
+  replayed (suc n) s = by-fetch (s n (omega arith)) (replayed n (λ m h. s m (omega arith)))
 
--- the class of a group hangs on the input that its tag names
-module _ (j : Job) (g : Group) where
-  pub hangs-on : (i : Instruction) {x : ℕ} (at : Corners) (m : Machines) → both at m ≡ cornersAfter j (g .box) (g .steps)
-      → Hangs i (m .low) (m .high) (m .tags) x → x ≡ inputOf j g i
-  hangs-on i at m e t = t (at .low) (at .high) (m .lowmem) (m .highmem) (m .tagmem) ∙ ap (λ (p : Pair). classTag i (p .low) (p .high) (p .tags)) e
+  -- the class at an instruction hangs on the input that its tag names
+  pub hangs-on : {n x : ℕ} (i : Instruction) (at : Corners) (m : Machines) → AtCorners j b n (both at m) → Settled b (after j n) i
+      → Hangs i (m .low) (m .high) (m .tags) x → OneInput b x (λ c. classOf i (after j n c))
+  hangs-on {n} i at m a h t =
+      rw (t (at .low) (at .high) (m .lowmem) (m .highmem) (m .tagmem), a .low, a .high)
+      (class-uniform (sound .proper) (whole-after j b sound n) (a .tags) i h)

@@ -17,7 +17,8 @@ use Rattle.riscu.specs.declared.Decoded.{Decoded}
 use Rattle.riscu.specs.declared.Decoded.the-variants.{Row, NoRow}
 use Rattle.listing.specs.Group.{Job, after}
 use Rattle.lockstep.specs.declared.Corners.{Corners}
-use Rattle.corners.specs.Tags.{Tags, tagStep, classTag, tagsAt}
+use Rattle.corners.specs.Tags.{Tags, tagStep, classTag}
+use Rattle.corners.specs.Uniform.{Uniform}
 
 -- the tags in the lists that the code holds them in
 abbrev pub tagged : List ℕ → List ℕ → Tags
@@ -85,6 +86,8 @@ module _ (lows highs : Choice) where
 unfoldable pub starting : List ℕ → Pair
 starting m = pair (start m) (start m) (tagged (replicate 32 0) (replicate memoryWords 0))
 
--- the two corners after n steps
-abbrev pub cornersAfter : Job → Box → ℕ → Pair
-cornersAfter j b n = pair (after j n (lows b)) (after j n (highs b)) (tagsAt j b n)
+-- the two corners of a box after n steps, with tags that are right on it
+pub record AtCorners (j : Job) (b : Box) (n : ℕ) (p : Pair) : Type 0 where
+  pub low : p .low ≡ after j n (lows b)
+  pub high : p .high ≡ after j n (highs b)
+  pub tags : Uniform b (after j n) (p .tags)

@@ -1,6 +1,6 @@
 // The machines at the two corners of a box in lock step, with the tags: for each register and each memory word the input that its
 // value hangs on. Tags stand in arrays of the machine's own types, so that its functions read and write them.
-// A box's corners after n steps come from the starting machine alone: nothing of another path can be left in them.
+// On a box whose steps are smooth it gives the runs at the two corners, and their tags.
 pub mod tags;
 pub mod together;
 

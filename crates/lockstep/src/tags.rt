@@ -5,6 +5,7 @@ use listing::operand_value;
 use listing::sorting_of;
 use riscu::At;
 use riscu::Instruction;
+use riscu::plain::Machine;
 use riscu::plain::Memory;
 use riscu::plain::Registers;
 use riscu::plain::load;
@@ -14,7 +15,8 @@ use riscu::plain::register;
 use riscu::plain::store;
 ghost use mathlib.Core.Path.{_≡_};
 ghost use Prim.Native.Nat.{_+_, _/_};
-ghost use lib.ListN.{getD, set};
+ghost use lib.ListN.{getD, set, replicate};
+ghost use Rattle.riscu.specs.Limits.{memoryWords};
 ghost use Rattle.riscu.specs.Word.{word, widen};
 ghost use Rattle.riscu.specs.Machine.{putIn};
 ghost use Rattle.riscu.specs.declared.Instruction.the-variants.{Ecall};
@@ -120,7 +122,13 @@ pub fn mark_stored(
 }
 
 // With an input left, the word that is read hangs on it.
-fn mark_read(inputs: &[u64], low: &Registers, tags: &mut Registers, tagmem: &mut Memory, at: At)
+pub(crate) fn mark_read(
+    inputs: &[u64],
+    low: &Registers,
+    tags: &mut Registers,
+    tagmem: &mut Memory,
+    at: At,
+)
     ensures { λ _.
         let t = tagged (now (tags .entry)) (now (tagmem .entry)) in
         let u = tagged (now (tags .exit)) (now (tagmem .exit)) in
@@ -160,4 +168,12 @@ pub(crate) fn mark(
         Instruction::Jalr { rd, rs1, imm } => put(tags, rd, 0),
         Instruction::Ecall => mark_read(inputs, low, tags, tagmem, at),
     }
+}
+
+// No input read.
+pub fn clear(tags: &mut Registers, tagmem: &mut Memory)
+    ensures { λ _. ⌜ tagged (now (tags .exit)) (now (tagmem .exit)) ≡ tagged (replicate 32 0) (replicate memoryWords 0) ⌝ }
+{
+    *tags = [0u64; 32];
+    *tagmem = [0u64; Machine::MEMORY_WORDS];
 }

@@ -3,10 +3,10 @@
 // Prints each line that differs, how many cases each instruction has, and the sum.
 use riscu::At;
 use riscu::plain::Machine;
-use riscu::plain::proceed;
 use riscu::plain::put;
 use riscu::plain::register;
 use riscu::plain::store;
+use runs::running::proceed;
 use vectors::differs;
 use vectors::line_end;
 use vectors::number_at;

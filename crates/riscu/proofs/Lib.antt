@@ -4,9 +4,8 @@
 --     Counters    pc stays a word, and the inputs read are at most the steps
 --     Columns     a product in columns, in any base
 --     Signs       signed numbers of any width, and as 64 bits
---     Rows        the search of the code's instruction table
+--     Rows        the search of the code's instruction table, and what is past its last row
 --     Joins       states by their parts, instructions by their cases
---     Runs        a run, one instruction at a time
 --     Search      the search of a list for a number
 --     Powers      the table of the powers of two, and which of them a word is
 --     Widths      sign extension, once over the width
@@ -17,7 +16,6 @@ pub mod Columns
 pub mod Signs
 pub mod Rows
 pub mod Joins
-pub mod Runs
 pub mod Search
 pub mod Powers
 pub mod Widths

@@ -1,5 +1,5 @@
 // RISC-U: the fourteen instructions of document 01's table, and the machine that runs them.
-// A word is decoded by the table's rows; the plain machine runs one choice of inputs, step by step.
+// A word is decoded by the table's rows; the plain machine takes one step on one choice of inputs.
 // A contract is an equation with a definition of specs/, where the papers leave nothing free.
 pub mod decoder;
 pub mod plain;

@@ -51,6 +51,11 @@ decided code m u a l h s p q e k =
     simp (ne-eqb (u .steps) (m .steps) s, eq-eqb (a .pc % 4) 0 p, lt-ltb (a .pc / 4) (length code) q)
     (ap (rowDecision (m .entries - u .entries) left l h) e ∙ k left)
 
+-- the word is the code's
+fetches : (code : List ℕ) (pc : ℕ) {d : Decoded} → pc % 4 ≡ 0 → pc / 4 < length code → decodeOf (getD code (pc / 4) 0) ≡ d → fetch code pc ≡ d
+unfolding fetch
+fetches code pc p q e = simp (eq-eqb (pc % 4) 0 p, lt-ltb (pc / 4) (length code) q) e
+
 -- its straight step is the code's
 pub from-word : (code : List ℕ) (m : Limits) (u : Used) (a : Corners) (x y : Machines) → u .steps ≢ m .steps → a .low .pc % 4 ≡ 0
     → a .low .pc / 4 < length code
@@ -59,6 +64,8 @@ pub from-word : (code : List ℕ) (m : Limits) (u : Used) (a : Corners) (x y : M
 from-word code m u a x y s p q (Taken b w) k =
     record {
       instruction = k .instruction;
+      below-limit = s;
+      row = fetches code (a .low .pc) p q (k .is);
       steps = decided code m u (a .low) (x .low) (x .high) s p q (k .is) (k .goes .steps);
       takes = k .goes .takes (ltb (a .low .reads) (m .inputs));
       moves = k .moves;

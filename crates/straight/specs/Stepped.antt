@@ -1,11 +1,14 @@
--- What the contracts say of a straight step: it is the decision's, and both corners take it; or nothing has moved.
+-- What the contracts say of a straight step: it is the decision's, and both corners take it; or nothing has moved. Straight steps one
+-- after another, and both corners from one number of steps to another.
 use mathlib.Core.Path.{_≡_}
 use mathlib.Core.Bool.{Bool}
 use mathlib.Core.List.{List}
-use Prim.Native.Nat.{ℕ}
+use mathlib.Core.Logic.{_≢_}
+use Prim.Native.Nat.{ℕ, _+_}
 use lib.Dec.{ltb}
 use denote.Ref.{now}
 use Rattle.boxes.specs.Boxes.{Choice}
+use Rattle.riscu.specs.Machine.{fetch}
 use Rattle.riscu.specs.declared.Instruction.{Instruction}
 use Rattle.riscu.specs.declared.Decoded.{Decoded}
 use Rattle.riscu.specs.declared.Decoded.the-variants.{Row}
@@ -15,7 +18,7 @@ use Rattle.decide.specs.declared.Limits.{Limits}
 use Rattle.decide.specs.declared.Used.{Used}
 use Rattle.decide.specs.declared.Decision.the-variants.{Steps}
 use Rattle.riscu.specs.Lent.{LentList}
-use Rattle.lockstep.specs.Together.{Pair, Machines, machines, both, advanced}
+use Rattle.lockstep.specs.Together.{Pair, Machines, machines, both, advanced, together}
 use Rattle.lockstep.specs.declared.Corners.{Corners}
 use Rattle.straight.specs.declared.Straight.{Straight}
 use Rattle.straight.specs.declared.Straight.the-variants.{Taken, Left}
@@ -59,6 +62,8 @@ FormStepped entries d a x y Left = y ≡ x
 pub record Decided (code : List ℕ) (m : Limits) (u : Used) (a : Corners) (x : Machines) (b : Corners) (y : Machines)
     (w : ℕ) : Type 0 where
   pub instruction : Instruction
+  pub below-limit : u .steps ≢ m .steps
+  pub row : fetch code (a .low .pc) ≡ Row instruction
   pub steps : decision code m u (a .low) (x .low) (x .high) ≡ Steps instruction
   pub takes : w ≡ writes (ltb (a .low .reads) (m .inputs)) instruction
   pub moves : Moves instruction (both a x) (both b y)
@@ -66,3 +71,26 @@ pub record Decided (code : List ℕ) (m : Limits) (u : Used) (a : Corners) (x : 
 abbrev pub DecidedStep : List ℕ → Limits → Used → Corners → Machines → Machines → Straight → Type 0
 DecidedStep code m u a x y (Taken b w) = Decided code m u a x b y w
 DecidedStep code m u a x y Left = y ≡ x
+
+-- where straight steps stand: what the group has used, where the corners are, the machines
+pub record Place : Type 0 where
+  pub used : Used
+  pub at : Corners
+  pub machines : Machines
+
+abbrev pub place : Used → Corners → Machines → Place
+place u a x = record { used = u; at = a; machines = x }
+
+-- one step and w entries more
+abbrev pub beyond : Used → ℕ → Used
+beyond u w = record { steps = u .steps + 1; entries = u .entries + w }
+
+-- straight steps one after another
+pub data StraightRun (code : List ℕ) (m : Limits) (p : Place) : Place → Type 0 where
+  none : StraightRun code m p p
+  more : {u : Used} {a b : Corners} {x y : Machines} {w : ℕ} → StraightRun code m p (place u a x) → Decided code m u a x b y w
+      → StraightRun code m p (place (beyond u w) b y)
+
+-- from step k to step n of both corners, wherever these began
+abbrev pub Onward : Choice → Choice → List ℕ → ℕ → Pair → ℕ → Pair → Type 0
+Onward ls hs code k p n q = (o : Pair) → p ≡ together ls hs code k o → q ≡ together ls hs code n o

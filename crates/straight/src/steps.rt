@@ -1,4 +1,5 @@
-// The straight step from the code: the first three points of the ending order, and then the row.
+// The straight step from the code: the first three points of the ending order, and then the row; and many in a row.
+use crate::Ran;
 use crate::Straight;
 use crate::rows::straight_word;
 use decide::Limits;
@@ -8,10 +9,10 @@ use lockstep::Corners;
 use riscu::plain::Memory;
 use riscu::plain::Registers;
 ghost use Rattle.lockstep.specs.Together.{machinesBefore, machinesAfter};
-ghost use Rattle.straight.specs.Stepped.{DecidedStep};
+ghost use Rattle.straight.specs.Stepped.{DecidedStep, place, StraightRun};
 
 // Takes the next step, where it is straight and its row is one of the usual ones. Which straight steps it leaves is free: nothing has moved then.
-pub fn straight_step(
+fn straight_step(
     code: &[u32],
     limits: Limits,
     used: Used,
@@ -53,4 +54,57 @@ pub fn straight_step(
         tagmem,
         at,
     )
+}
+
+// Straight steps in a row, which are most of an exploration. How many it takes is free. One function takes them for a group and for
+// a replay, so that a step is taken within its loop and not by a call.
+pub fn straight_steps(
+    code: &[u32],
+    limits: Limits,
+    used: Used,
+    low: &mut Registers,
+    lowmem: &mut Memory,
+    high: &mut Registers,
+    highmem: &mut Memory,
+    tags: &mut Registers,
+    tagmem: &mut Memory,
+    at: Corners,
+) -> Ran
+    ensures { λ r.
+        let x = machinesBefore low lowmem high highmem tags tagmem in
+        let y = machinesAfter low lowmem high highmem tags tagmem in
+        ⌜ StraightRun (now (code .entry)) limits (place used at x) (place (r .used) (r .at) y) ⌝ }
+{
+    let mut so_far = used;
+    let mut corners = at;
+    while so_far.steps < limits.steps {
+        let t = straight_step(
+            code,
+            limits,
+            so_far,
+            low,
+            lowmem,
+            high,
+            highmem,
+            tags,
+            tagmem,
+            corners,
+        );
+        let Straight::Taken { at: to, writes } = t else {
+            return Ran {
+                used: so_far,
+                at: corners,
+            };
+        };
+        let next = Used {
+            steps: so_far.steps + 1,
+            entries: so_far.entries + writes,
+        };
+        so_far = next;
+        corners = to;
+    }
+    Ran {
+        used: so_far,
+        at: corners,
+    }
 }

@@ -1,4 +1,6 @@
-use Rattle.explorer.proofs.Forking.{tag-inside, fork-partable, fork-entry, fork-used, fork-steps, fork-done}
+use mathlib.Core.Path.{refl}
+use denote.Ref.{now}
+use Rattle.explorer.proofs.Forking.{tag-inside, fork-partable, fork-entry, fork-used, fork-steps, with-run, fork-done}
 use native.Mathlib.Omega.{arith}
 use borrow.Author.Needs.{needs}
 use Rattle.explorer.proofs.branching.fork_on.Statement.{statement}
@@ -67,36 +69,32 @@ part-requires c κs =
 
 note-requires : tie.Need-note-requires
 note-requires c κs =
-    let at-part = c .before .before .before .before .before in
+    let at-part = c .before .before .before in
     let entry = at-part .before .before .before .before .before .before .before .before .before .before .before .before .before .before .before .before .before .before .before .before .before .before .before .before .before .before .before .before in
-    (fork-entry (entry .pre), at-part .part .ensures .edge .below-hi)
-
-same-length : tie.Need-same-length
-same-length c =
-    c .before .before .before .before .before .before .before .before .before .before .before .before .before .before .before .before .before .part .kept .1 .1 .1 .1 .0
+    (fork-entry (entry .pre), at-part .part .ensures .0 .edge .below-hi)
 
 same-length-2 : tie.Need-same-length-2
-same-length-2 c =
-    c .before .before .before .before .before .before .before .before .before .before .before .before .before .before .before .before .before .part .kept .1 .1 .1 .1 .1 .0
+same-length-2 c = c .before .before .before .before .before .before .before .before .before .before .before .before .before .before .before .before .before .part .kept .1 .1 .1 .1 .1 .0
 
 same-length-3 : tie.Need-same-length-3
-same-length-3 c = c .before .before .before .before .before .before .before .before .before .before .before .note .kept .0
+same-length-3 c = c .before .before .before .before .before .before .before .before .before .before .before .before .before .note .kept .0
 
 returns : tie.Need-returns
 returns c =
-    let at-note = c .before .before .before .before .before .before .before .before .before .before .before in
-    let at-part = at-note .before .before .before .before .before .before in
+    let at-note = c .before .before .before .before .before .before .before .before .before .before .before .before .before in
+    let at-part = at-note .before .before .before .before in
     let at-class-of = at-part .before .before .before .before .before .before .before .before .before .before in
     let at-class-tag = at-class-of .before .before in
     let at-writes = at-class-tag .before .before .before .before .before .before .before in
     let entry = at-writes .before .before .before .before .before .before .before .before .before in
+    let a = entry .args in
     let t = at-class-tag .class-tag in
     let k = at-class-of .class-of in
     let p = at-part .part in
     let n = at-note .note in
     rw (at-writes .writes .ensures)
-    (fork-done (entry .pre) (t .result) (t .ensures) (k .result) (k .ensures) _ (c .replay .result) (p .result) (p .ensures) (n .ensures) (n .kept .0)
-    (c .replay .ensures))
+    (fork-done (entry .pre) (t .result) (t .ensures) (k .result) (k .ensures) _ (c .advance .result) (p .result .edge) refl (p .ensures .0)
+    (n .ensures) (n .kept .0) (with-run (now (a .lows)) _ (a .i) _ _ (p .ensures .1) (c .advance .ensures)))
 
 pub fork-on-spec : {M : Type 1} → statement M
 fork-on-spec =
@@ -116,7 +114,7 @@ fork-on-spec =
     part-requires
     note-requires
     (λ c κs. search needs)
-    same-length
+    (λ c. refl)
     same-length-2
     same-length-3
     returns)

@@ -95,7 +95,7 @@ take-rest-requires c κs =
     let entry = at-top .before .before .before .before .before .before .before .before in
     let i = at-set-interval .set-interval in
     let r = at-replay .replay in
-    takeable (entry .pre) (at-top .top .ensures) _ _ (i .ensures) (i .kept .0) (i .kept .1 .0) _ (r .result) (r .ensures) _ (sym (at-fetch .fetch .ensures) ∙ at-d .d .given .1) (omega (arith, entry .good .1 .1 .1 .0))
+    takeable (entry .pre) (at-top .top .ensures) _ _ (i .ensures) (i .kept .0) (i .kept .1 .0) _ (r .result) (r .ensures) _ (sym (at-fetch .fetch .ensures) ∙ at-d .d .given .1)
 
 same-length-4 : tie.Need-same-length-4
 same-length-4 c =

@@ -1,6 +1,7 @@
 use mathlib.Core.Logic.{inl, inr}
 use mathlib.Core.Path.{refl, sym, _∙_}
-use native.Mathlib.Omega.{arith}
+use denote.Ref.{now}
+use Rattle.explorer.proofs.Forking.{with-run}
 use borrow.Author.Needs.{needs}
 use Rattle.explorer.proofs.branching.take_rest.Statement.{statement}
 use Rattle.explorer.proofs.branching.take_rest.Tie as tie
@@ -32,30 +33,28 @@ part-requires c κs =
 
 rise-requires : tie.Need-rise-requires
 rise-requires c κs =
-    let at-part = c .before .before .before .before .before in
+    let at-part = c .before .before .before in
     let entry = at-part .before .before .before .before .before .before .before .before .before .before .before .before .before .before .before .before .before .before .before in
-    (entry .pre .entry, at-part .part .ensures .edge .below-hi)
-
-add-replay : tie.Need-add-replay
-add-replay c =
-    omega (arith, c .before .before .before .before .before .before .before .before .before .before .before .before .before .before .before .before .before .before .before .before .before .before .before .before .before .before .before .pre .steps-fit)
+    (entry .pre .entry, at-part .part .ensures .0 .edge .below-hi)
 
 returns-2 : tie.Need-returns-2
 returns-2 c =
-    let at-rise = c .before .before .before .before .before .before .before .before .before .before .before in
-    let at-part = at-rise .before .before .before .before .before .before in
+    let at-rise = c .before .before .before .before .before .before .before .before .before .before .before .before .before in
+    let at-part = at-rise .before .before .before .before in
     let at-if1 = at-part .before .before .before .before .before .before .before .before .before .before in
     let at-class-of2 = at-if1 .before in
     let at-class-of = at-class-of2 .before .before in
+    let a = at-class-of .before .before .before .before .before .before .args in
     let p = at-part .part in
-    let a = at-class-of .class-of .ensures in
+    let e = at-class-of .class-of .ensures in
     inr (
-      λ e. at-if1 .if1 .left (a ∙ e ∙ sym (at-class-of2 .class-of2 .ensures)),
+      λ d. at-if1 .if1 .left (e ∙ d ∙ sym (at-class-of2 .class-of2 .ensures)),
       record {
-        edge = p .result;
-        parted = rw a at (p .ensures);
+        edge = p .result .edge;
+        lows = refl;
+        parted = rw e at (p .ensures .0);
         forks = at-rise .rise .ensures;
-        corners = c .replay .ensures;
+        corners = with-run (now (a .lows)) _ (a .i) _ _ (p .ensures .1) (c .advance2 .ensures);
       },
     )
 
@@ -69,6 +68,5 @@ take-rest-spec =
     (λ c. search needs) (λ c. search needs) (λ c. search needs) (λ c. search needs) (λ c κs. search needs)
     part-requires
     rise-requires
-    add-replay
     (λ c κs. search needs) (λ c. search needs) (λ c. search needs) (λ c. search needs)
     returns-2)

@@ -1,9 +1,9 @@
 use Rattle.lockstep.specs.Together.{pair, together, starting}
 use denote.Ref.{now}
 use mathlib.Core.Path.{_∙_}
 use borrow.Author.Needs.{needs}
-use Rattle.lockstep.proofs.together.replay.Statement.{statement}
-use Rattle.lockstep.proofs.together.replay.Tie as tie
+use Rattle.straight.proofs.replaying.replay.Statement.{statement}
+use Rattle.straight.proofs.replaying.replay.Tie as tie
 
 returns : tie.Need-returns
 unfolding starting

@@ -1,7 +1,7 @@
 use denote.Ref.{now}
 use borrow.Author.Needs.{needs}
-use Rattle.lockstep.proofs.together.begin.Statement.{statement}
-use Rattle.lockstep.proofs.together.begin.Tie as tie
+use Rattle.runs.proofs.running.begin.Statement.{statement}
+use Rattle.runs.proofs.running.begin.Tie as tie
 
 returns : tie.Need-returns
 returns c =

@@ -1,0 +1,2 @@
+-- A step by its row, and a run by its steps.
+pub mod Steps
