@@ -17,8 +17,8 @@ stale() { # is the first file missing, or older than one of the others?
     [ ! -e "$1" ] || [ -n "$(find "${@:2}" -newer "$1" -type f -print -quit)" ]
 }
 
-build_formats() { # Job A's source is a part of it
-    if stale "$formats" tool/formats jobs/job-a.s; then
+build_formats() { # Job A's source and the words of the numbers are parts of it
+    if stale "$formats" tool/formats jobs/job-a.s docs/NUMBERS.md; then
         mkdir -p "${formats%/*}"
         "${rust[@]}" --crate-type rlib --crate-name formats -o "$formats" tool/formats/lib.rs
     fi

@@ -52,7 +52,7 @@ fn ends(counts: &Counts) -> Vec<Counted> {
 }
 
 /// In per cent, with two decimals.
-fn share(choices: u64, total: u64) -> String {
+pub fn share(choices: u64, total: u64) -> String {
     let hundredths = units(choices, total, 100 * 100);
     format!("{}.{:02}", hundredths / 100, hundredths % 100)
 }

@@ -5,8 +5,13 @@ mod count;
 mod form;
 #[allow(dead_code)] // jobs are served in the host tests alone
 mod library;
+mod page;
 mod place;
+mod plain;
+mod progress;
+mod rule;
 mod sheet;
+mod witnesses;
 
 use formats::blocks::flat;
 use formats::job::{self, Job};
@@ -110,7 +115,11 @@ fn read_text(name: &str) -> Result<String> {
 }
 
 fn read_source(name: &str) -> Result<Job> {
-    source::assemble(&read_text(name)?).map_err(|faults| line_faults(name, &faults))
+    assembled(name, &read_text(name)?)
+}
+
+fn assembled(name: &str, text: &str) -> Result<Job> {
+    source::assemble(text).map_err(|faults| line_faults(name, &faults))
 }
 
 fn is_source(name: &str) -> bool {
@@ -154,11 +163,12 @@ struct Options {
     shown: Shown,
     sheet: bool,
     report: Option<String>,
+    page: Option<String>,
 }
 
 fn options(arguments: &[String]) -> Result<Options> {
     let (paths, shown) = (USUAL_PAGE_PATHS, Shown::None);
-    let mut options = Options { first: None, paths, shown, sheet: false, report: None };
+    let mut options = Options { first: None, paths, shown, sheet: false, report: None, page: None };
     let mut left = arguments.iter();
     while let Some(argument) = left.next() {
         match (argument.as_str(), &mut left) {
@@ -167,6 +177,7 @@ fn options(arguments: &[String]) -> Result<Options> {
             ("--first", left) => options.first = Some(option_number(argument, left.next())?),
             ("--paths", left) => options.paths = path_count(argument, left.next())?,
             ("--report", left) => options.report = Some(left.next().ok_or_else(usage)?.clone()),
+            ("--page", left) => options.page = Some(left.next().ok_or_else(usage)?.clone()),
             _ => return Err(usage()),
         }
     }
@@ -191,7 +202,14 @@ fn path_count(option: &str, text: Option<&String>) -> Result<usize> {
 
 fn explore(name: &str, arguments: &[String]) -> Result<Output> {
     let options = options(arguments)?;
-    explore_job(&read_job(name)?, &options)
+    let rule = rule::read(name)?;
+    // made first and stored last: a rule that has no page, or is turned away, leaves no file
+    let page = options.page.as_ref().map(|_| page::page_text(&rule)).transpose()?;
+    let output = explore_job(&rule.job, &options)?;
+    for (name, text) in options.page.iter().zip(page) {
+        std::fs::write(name, text).map_err(|error| fault(name, error))?;
+    }
+    Ok(output)
 }
 
 fn explore_job(job: &Job, options: &Options) -> Result<Output> {
@@ -248,7 +266,9 @@ fn run(arguments: &[String]) -> Result<Output> {
         ["show", name] => show(name),
         ["report", name] => report(name),
         ["explore", name, ..] => explore(name, &arguments[2..]),
+        ["page", name] => page::page(name),
         ["place", rule, rows] => place::place(rule, rows),
+        ["witnesses", name] => witnesses::witnesses(name),
         ["count", name] => count::count(name),
         _ => Err(usage()),
     }

@@ -1,6 +1,7 @@
 //! The command `place`: which path of a rule does each row of inputs take?
 
-use crate::{accepted, explore_page, fault, library, line_faults, output, read_file};
+use crate::rule::whole_report;
+use crate::{accepted, fault, library, line_faults, output, read_file};
 use crate::{read_job, read_text, Output, Result, MOST_PAGE_PATHS};
 use formats::job::Job;
 use formats::limits::{path_bytes, MOST_INPUTS, MOST_ROWS};
@@ -36,18 +37,13 @@ fn read_paths(name: &str) -> Result<Paths> {
     }
 }
 
-/// Every path of a job, whatever first path it names; in one page, since each explores from the start.
+/// Every path of a job, whatever first path it names.
 fn whole_listing(name: &str, job: &Job, most: usize) -> Result<Paths> {
     let inputs = job.intervals.len();
     if inputs == 0 {
         return Err(fault(name, "the rule has no input, so there is no row to place"));
     }
-    let (mut report, reply) = explore_page(job, most, 0)?;
-    if reply.more != 0 {
-        return Err(fault(name, format!("the rule has more than {most} paths; narrow its inputs")));
-    }
-    report.truncate(reply.count as usize * path_bytes(inputs));
-    Ok(Paths { inputs, report, whole: true })
+    Ok(Paths { inputs, report: whole_report(name, job, most)?, whole: true })
 }
 
 fn read_report(name: &str) -> Result<Paths> {
@@ -122,7 +118,7 @@ fn path_text(record: Option<&Record>, whole: bool) -> String {
 #[cfg(test)]
 mod tests {
     use super::*;
-    use crate::{stopped, Stop};
+    use crate::{explore_page, stopped, Stop};
     use formats::assembler::job_a;
     use formats::blocks::{to_bytes, Interval};
     use formats::limits::PAYLOAD_WORDS;

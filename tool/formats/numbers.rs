@@ -79,17 +79,48 @@ pub fn reason_text(reason: u64) -> &'static str {
     }
 }
 
+// ---------------------------------------------------------------------------------------------
+// What to do.
+
+const PAGE: &str = include_str!("../../docs/NUMBERS.md");
+
+// Its parts that have a table, after the text at its top.
+#[cfg(test)]
+const REFUSAL_PART: usize = 1;
+const KIND_PART: usize = 2;
+const REASON_PART: usize = 3;
+
+/// What a rule writer can do about paths of this kind; Markdown, as is the page's.
+pub fn kind_advice(kind: u64) -> &'static str {
+    advice(KIND_PART, kind)
+}
+
+/// The same for a reason of kind 8.
+pub fn reason_advice(reason: u64) -> &'static str {
+    advice(REASON_PART, reason)
+}
+
+/// The last field of a number's row; nothing for a number that has none.
+fn advice(part: usize, number: u64) -> &'static str {
+    let start = format!("| {number} | ");
+    let row = rows(part).find(|row| row.starts_with(&start)).unwrap_or("");
+    row.trim_end_matches(" |").split(" | ").nth(2).unwrap_or("")
+}
+
+/// The rows of a part's table, without its heading.
+fn rows(part: usize) -> impl Iterator<Item = &'static str> {
+    let part = PAGE.split("\n## ").nth(part).unwrap_or("");
+    part.lines().filter(|line| line.starts_with("| ")).skip(1)
+}
+
 #[cfg(test)]
 mod tests {
     use super::*;
     use std::collections::BTreeSet;
 
-    const PAGE: &str = include_str!("../../docs/NUMBERS.md");
-
     /// The rows of a part of docs/NUMBERS.md stand in order and begin with the words of the tool.
     fn check_page(part: usize, text: impl Fn(u64) -> String, highest: u64) {
-        let part = PAGE.split("\n## ").nth(part).unwrap();
-        let rows: Vec<&str> = part.lines().filter(|line| line.starts_with("| ")).skip(1).collect();
+        let rows: Vec<&str> = rows(part).collect();
         assert_eq!(rows.len() as u64, highest);
         for (row, number) in rows.iter().zip(1..) {
             assert!(row.starts_with(&format!("| {number} | {} | ", text(number))), "{row}");
@@ -98,9 +129,20 @@ mod tests {
 
     #[test]
     fn the_page_has_the_same_words() {
-        check_page(1, refusal_text, REFUSALS);
-        check_page(2, |kind| kind_text(kind).to_string(), KINDS);
-        check_page(3, |reason| reason_text(reason).to_string(), REASONS);
+        check_page(REFUSAL_PART, refusal_text, REFUSALS);
+        check_page(KIND_PART, |kind| kind_text(kind).to_string(), KINDS);
+        check_page(REASON_PART, |reason| reason_text(reason).to_string(), REASONS);
+    }
+
+    #[test]
+    fn every_number_has_its_advice() {
+        let rows = |highest, advice: fn(u64) -> &'static str| (1..=highest).map(advice);
+        for advice in rows(KINDS, kind_advice).chain(rows(REASONS, reason_advice)) {
+            assert!(advice.ends_with('.') && !advice.contains('|'), "{advice}");
+        }
+        assert!(kind_advice(7).starts_with("Look for a loop that does not end;"));
+        assert!(reason_advice(7).starts_with("Set a7, "));
+        assert_eq!([kind_advice(0), kind_advice(10), reason_advice(8)], [""; 3]);
     }
 
     fn check_texts(text: impl Fn(u64) -> String, highest: u64) {

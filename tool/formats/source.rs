@@ -47,6 +47,40 @@ pub fn assemble(text: &str) -> Result<Job, Vec<Fault>> {
 }
 
 // ---------------------------------------------------------------------------------------------
+// What only a reader sees.
+
+/// What the text of a source says beside its job.
+#[derive(Clone, Debug, PartialEq, Eq)]
+pub struct Notes {
+    /// The first comment that has a line of its own.
+    pub title: Option<String>,
+    /// The comment behind each `.input`.
+    pub inputs: Vec<Option<String>>,
+    /// The line of each code word, counted from 1.
+    pub code_lines: Vec<usize>,
+}
+
+/// The notes of a source that has no fault.
+pub fn notes(text: &str) -> Notes {
+    let lines: Vec<&str> = text.lines().collect();
+    let (statements, _) = statements(text, &mut Vec::new());
+    let inputs = statements.iter().filter(|statement| statement.name == ".input");
+    let own_line = |line: &&&str| without_comment(line).is_empty();
+    Notes {
+        title: lines.iter().filter(own_line).find_map(|line| comment(line)),
+        inputs: inputs.map(|statement| comment(lines[statement.line - 1])).collect(),
+        code_lines: statements.iter().filter(|it| is_code(it)).map(|it| it.line).collect(),
+    }
+}
+
+/// A line's comment; none if there is nothing to read in it.
+fn comment(line: &str) -> Option<String> {
+    let (_, text) = line.split_once('#')?;
+    let text = text.trim_start_matches('#').trim();
+    (!text.is_empty()).then(|| text.to_string())
+}
+
+// ---------------------------------------------------------------------------------------------
 // Lines.
 
 fn statements<'a>(text: &'a str, faults: &mut Vec<Fault>) -> (Vec<Statement<'a>>, Labels<'a>) {

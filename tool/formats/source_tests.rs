@@ -4,7 +4,7 @@ use crate::assembler::job_a;
 use crate::instruction::{decode, text};
 use crate::job::Job;
 use crate::random::Random;
-use crate::source::assemble;
+use crate::source::{assemble, notes, Notes};
 
 fn job(source: &str) -> Job {
     assemble(source).unwrap_or_else(|faults| panic!("{source}: {faults:?}"))
@@ -240,4 +240,27 @@ fn no_text_stops_the_assembler() {
         let spaced: Vec<&str> = (0..count).map(|_| random.pick(&PIECES)).collect();
         let _ = (assemble(&source), assemble(&spaced.join(" ")));
     }
+}
+
+#[test]
+fn notes_of_a_source() {
+    let source =
+        "  \n.limit 9 # steps\n#\n## A rule: of <two> lines\n# more\n.input 0..5 # minutes\n\
+                  .input 1..2\nhere: nop # first\nj here\n.code 0 # last\n";
+    let inputs = vec![Some("minutes".to_string()), None];
+    let title = Some("A rule: of <two> lines".to_string());
+    assert_eq!(notes(source), Notes { title, inputs, code_lines: vec![8, 9, 10] });
+    let bare = Notes { title: None, inputs: Vec::new(), code_lines: vec![1] };
+    assert_eq!(notes("nop # no line of its own"), bare);
+}
+
+#[test]
+fn every_code_word_has_its_line() {
+    let source = include_str!("../../jobs/waiting-time.s");
+    let lines: Vec<&str> = source.lines().collect();
+    let notes = notes(source);
+    assert_eq!(notes.code_lines.len(), job(source).code.len());
+    assert_eq!(lines[notes.code_lines[2] - 1].split_whitespace().next(), Some("ecall"));
+    assert_eq!(notes.inputs[2].as_deref(), Some("trucks in the queue"));
+    assert!(notes.title.unwrap().starts_with("A waiting-time rule: how long"));
 }

@@ -1,0 +1,105 @@
+//! The table of paths.
+
+use super::choices::Choices;
+use super::html::{cell_interval, escape, interval};
+use super::legend::swatch;
+use super::picture::Anchors;
+use super::program::inside;
+use super::Page;
+use formats::instruction::register_name;
+use formats::numbers::{kind_text, reason_text, EXITED};
+use formats::report::Record;
+
+/// Paths of a part of the table: a browser lays out the parts that are seen.
+const PART: usize = 250;
+
+/// A cell's class and its text as it is shown.
+type Cell = (&'static str, String);
+
+pub fn html(page: &Page, anchors: &Anchors) -> String {
+    let parts = page.records.chunks(PART).zip((0..).step_by(PART));
+    parts.map(|(records, first)| part(page, anchors, records, first)).collect()
+}
+
+fn part(page: &Page, anchors: &Anchors, records: &[Record], first: usize) -> String {
+    let rows: String = records
+        .iter()
+        .zip(first..)
+        .map(|(record, path)| row(page, anchors, record, path))
+        .collect();
+    format!(
+        "<div class=\"scroll part\"><table class=\"paths\">\n{}<tbody>\n{rows}</tbody>\n</table></div>\n",
+        heading(page)
+    )
+}
+
+fn heading(page: &Page) -> String {
+    let inputs = (0..page.start().len()).map(|input| page.name(input));
+    let names = ["Path"].into_iter().chain(inputs);
+    let names = names.chain(["Leads to", "Exit", "At", "Steps", "Choices", "Share", "Registers"]);
+    let names: String = names.map(|name| format!("<th>{}</th>", escape(name))).collect();
+    format!("<thead><tr>{names}</tr></thead>\n")
+}
+
+fn row(page: &Page, anchors: &Anchors, record: &Record, path: usize) -> String {
+    let cells: String = cells(page, record)
+        .iter()
+        .map(|(class, text)| format!("<td class=\"{class}\">{text}</td>"))
+        .collect();
+    let number = anchors.link(path);
+    format!(
+        "<tr id=\"path-{path}\" data-path=\"{path}\"><td class=\"n\">{number}</td>{cells}</tr>\n"
+    )
+}
+
+fn cells(page: &Page, record: &Record) -> Vec<Cell> {
+    let choices = Choices::new(&record.intervals, page.start());
+    let exit = if record.kind == EXITED { cell_interval(record.exit) } else { String::new() };
+    let inputs = record.intervals.iter().map(|&held| ("in", cell_interval(held)));
+    let after = [
+        ("end", end(page, record)),
+        ("exit", exit),
+        ("at", at(page, record)),
+        ("steps", record.steps.to_string()),
+        ("n", choices.text()),
+        ("n", choices.share_text(page.legend.all())),
+        ("registers", registers(record)),
+    ];
+    inputs.chain(after).collect()
+}
+
+/// Kind and reason in words; where something can be done about it, a link to what that is.
+fn end(page: &Page, record: &Record) -> String {
+    let swatch = swatch(&page.legend.style(record));
+    let words = match (kind_text(record.kind), record.reason) {
+        (kind, 0) => kind.to_string(),
+        (kind, reason) => format!("{kind}: {}", reason_text(reason)),
+    };
+    let words = escape(&words);
+    let advice = match record.kind {
+        EXITED => String::new(),
+        _ => format!(" <a href=\"#{}\">what to do</a>", page.legend.anchor(record)),
+    };
+    format!("{swatch} {words}{advice}")
+}
+
+/// The pc, with its line of the source or its instruction.
+fn at(page: &Page, record: &Record) -> String {
+    let pc = record.pc;
+    match inside(&page.rule.job, pc) {
+        None => format!("{pc}, outside the code"),
+        Some(word) => format!(
+            "<a href=\"#at-{pc}\">{pc}</a> <small>{}</small>",
+            escape(&page.word_text(word))
+        ),
+    }
+}
+
+/// On request: the registers that are not 0.
+fn registers(record: &Record) -> String {
+    let numbered = record.registers.iter().zip(0..);
+    let shown = numbered.filter(|(held, _)| **held != (0, 0));
+    let lines =
+        shown.map(|(&held, register)| format!("\n{} {}", register_name(register), interval(held)));
+    format!("<details><summary>show</summary>{}</details>", lines.collect::<String>())
+}

@@ -1,0 +1,141 @@
+//! The program of a rule, with the paths that pass each instruction and where paths end or fork.
+
+use super::html::{counted, escape, path_link, Ranges};
+use super::Page;
+use crate::plain;
+use crate::progress;
+use formats::instruction;
+use formats::job::Job;
+use formats::report::Record;
+use std::sync::atomic::Ordering;
+
+/// Ranges of paths, and forks, that a line names.
+const MOST_RANGES: usize = 6;
+
+/// What the paths do at each code word.
+#[derive(Default)]
+pub struct Places {
+    words: Vec<Word>,
+}
+
+#[derive(Clone, Default)]
+struct Word {
+    passed: Ranges,
+    ended: Ranges,
+    /// Paths that parted here from the path after them.
+    parted: Vec<usize>,
+}
+
+/// Which instructions a path passes is found by running the plain machine at the path's lowest inputs, the
+/// witness that the report gives: every choice of the path runs through the same ones. Two paths that follow
+/// each other part at the first instruction whose fork rule sorts their witnesses differently.
+pub fn places(job: &Job, records: &[Record]) -> Result<Places, String> {
+    progress::shown("plain runs of paths", records.len(), |done| {
+        let mut words = vec![Word::default(); job.code.len()];
+        let mut before: Option<Vec<plain::Step>> = None;
+        for (path, record) in records.iter().enumerate() {
+            let steps = plain::steps(job, record)?;
+            steps.iter().for_each(|step| words[step.pc as usize / 4].passed.add(path));
+            if let Some(word) = inside(job, record.pc) {
+                words[word].ended.add(path);
+            }
+            if let Some(before) = before {
+                let fork = plain::parting(&before, &steps);
+                let fork = fork
+                    .ok_or_else(|| format!("path {path} does not part from the one before it"))?;
+                words[fork as usize / 4].parted.push(path - 1);
+            }
+            before = Some(steps);
+            done.fetch_add(1, Ordering::Relaxed);
+        }
+        Ok(Places { words })
+    })
+}
+
+/// The code word at a pc, if there is one.
+pub fn inside(job: &Job, pc: u64) -> Option<usize> {
+    let inside = pc % 4 == 0 && pc / 4 < job.code.len() as u64;
+    inside.then_some(pc as usize / 4)
+}
+
+// ---------------------------------------------------------------------------------------------
+// The table.
+
+pub fn html(page: &Page, places: &Places) -> String {
+    let rows: String = match &page.rule.source {
+        Some(source) => {
+            let lines = source.lines().zip(1..);
+            lines.map(|(text, line)| line_html(page, places, line, text)).collect()
+        }
+        None => {
+            let words = page.rule.job.code.iter().enumerate();
+            words.map(|(word, &code)| word_html(page, places, word, "", &word_text(code))).collect()
+        }
+    };
+    let heading = "<thead><tr><th>Line</th><th>Address</th><th>Instruction</th><th>Passed by</th>\
+                   <th>Here</th></tr></thead>\n";
+    format!("<div class=\"scroll\"><table class=\"program\">\n{heading}<tbody>\n{rows}</tbody>\n</table></div>\n")
+}
+
+/// A line of the source; one without a code word has its text alone.
+fn line_html(page: &Page, places: &Places, line: usize, text: &str) -> String {
+    match page.lines.binary_search(&line) {
+        Ok(word) => word_html(page, places, word, &line.to_string(), text),
+        Err(_) => format!(
+            "<tr class=\"text\"><td class=\"n\">{line}</td><td></td><td colspan=\"3\"><code>{}</code></td></tr>\n",
+            escape(text)
+        ),
+    }
+}
+
+fn word_html(page: &Page, places: &Places, word: usize, line: &str, text: &str) -> String {
+    let Word { passed, ended, parted } = &places.words[word];
+    let address = 4 * word;
+    let all = page.records.len();
+    let passes = match passed.count() {
+        0 if ended.is_empty() => "no path".to_string(),
+        0 => String::new(),
+        count if count == all => format!("all {}", counted(all, "path")),
+        count => format!("{count} of {all}: {}", passed.links(MOST_RANGES)),
+    };
+    let (ends, forks) = (ends_html(ended), forks_html(parted));
+    let class = if passed.is_empty() && ended.is_empty() { "unused" } else { "code" };
+    format!(
+        "<tr id=\"at-{address}\" class=\"{class}\" data-passed=\"{}\" data-ended=\"{}\">\
+         <td class=\"n\">{line}</td><td class=\"n\">{address}</td><td><code>{}</code></td>\
+         <td>{passes}</td><td>{forks}{ends}</td></tr>\n",
+        passed.attribute(),
+        ended.attribute(),
+        escape(text),
+    )
+}
+
+fn ends_html(ended: &Ranges) -> String {
+    match ended.is_empty() {
+        true => String::new(),
+        false => format!("<span class=\"ends\">end</span> of {} ", ended.links(MOST_RANGES)),
+    }
+}
+
+/// Between which paths the rule forks here.
+fn forks_html(parted: &[usize]) -> String {
+    if parted.is_empty() {
+        return String::new();
+    }
+    let pair = |&path: &usize| format!("{} | {}", path_link(path), path_link(path + 1));
+    let pairs: Vec<String> = parted.iter().take(MOST_RANGES).map(pair).collect();
+    let rest = if parted.len() > MOST_RANGES {
+        format!(" … ({} cuts)", parted.len())
+    } else {
+        String::new()
+    };
+    format!("<span class=\"forks\">fork</span> {}{rest} ", pairs.join(", "))
+}
+
+/// A code word as an instruction.
+pub fn word_text(code: u32) -> String {
+    match instruction::decode(code) {
+        Some(instruction) => instruction::text(&instruction),
+        None => format!(".code {code:#010X}"),
+    }
+}

@@ -1,0 +1,42 @@
+//! A rule with all of its paths, for the commands that need the whole listing.
+
+use crate::{assembled, explore_page, fault, is_source, progress, read_job, read_text};
+use crate::{Result, MOST_PAGE_PATHS};
+use formats::job::Job;
+use formats::limits::path_bytes;
+use formats::report::{self, Record};
+
+pub struct Rule {
+    pub name: String,
+    pub job: Job,
+    /// The text of a source; a job in blocks has none.
+    pub source: Option<String>,
+}
+
+pub fn read(name: &str) -> Result<Rule> {
+    let source = if is_source(name) { Some(read_text(name)?) } else { None };
+    let job = match &source {
+        Some(text) => assembled(name, text)?,
+        None => read_job(name)?,
+    };
+    Ok(Rule { name: name.to_string(), job, source })
+}
+
+impl Rule {
+    /// Every path, whatever first path the job names.
+    pub fn records(&self) -> Result<Vec<Record>> {
+        let report = whole_report(&self.name, &self.job, MOST_PAGE_PATHS as usize)?;
+        let records = report::read_pages(&report, self.job.intervals.len());
+        records.map_err(|message| fault("the library's report", message))
+    }
+}
+
+/// The records of every path; in one page, since each page explores from the start.
+pub fn whole_report(name: &str, job: &Job, most: usize) -> Result<Vec<u8>> {
+    let (mut report, reply) = progress::shown("exploring", 0, |_| explore_page(job, most, 0))?;
+    if reply.more != 0 {
+        return Err(fault(name, format!("the rule has more than {most} paths; narrow its inputs")));
+    }
+    report.truncate(reply.count as usize * path_bytes(job.intervals.len()));
+    Ok(report)
+}
