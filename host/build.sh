@@ -24,9 +24,9 @@ build_formats() { # Job A's source and the words of the numbers are parts of it
     fi
 }
 
-build_tool() {
+build_tool() { # the oracle's plain machine is a part of it
     build_formats
-    if stale "$tool" tool "$formats" "$archive"; then
+    if stale "$tool" tool host/oracle.rs "$formats" "$archive"; then
         "${rust[@]}" "${with_library[@]}" -o "$tool" tool/mirokefa-job.rs
     fi
 }

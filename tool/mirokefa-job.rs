@@ -368,6 +368,10 @@ mod tests {
             &["count"],
             &["count", "a.s", "b.s"],
             &["count", "a.s", "--sheet"],
+            &["page"],
+            &["page", "a.s", "b.s"],
+            &["witnesses"],
+            &["witnesses", "a.s", "--page"],
         ];
         for words in wrong {
             assert_eq!(run_words(words).err(), Some(usage()));
@@ -377,9 +381,14 @@ mod tests {
             assert_eq!(run_words(words).unwrap().out, USAGE.as_bytes());
         }
         assert!(USAGE.contains(&format!("and not of {USUAL_PAGE_PATHS}\n")));
-        for words in
-            [&["--first"][..], &["--first", "x"], &["--paths", "65537"], &["--report"], &["-x"]]
-        {
+        for words in [
+            &["--first"][..],
+            &["--first", "x"],
+            &["--paths", "65537"],
+            &["--report"],
+            &["--page"],
+            &["-x"],
+        ] {
             assert!(run_words(&[&["explore", "none.job"], words].concat()).is_err());
         }
         assert!(run_words(&["show", "no/such/file.job"]).is_err());

@@ -4,6 +4,7 @@
 mod axis;
 mod bands;
 mod choices;
+mod drawing;
 mod html;
 mod labels;
 mod legend;
@@ -14,6 +15,7 @@ mod shapes;
 
 use crate::rule::{self, Rule};
 use crate::{fault, output, Output, Result};
+use drawing::Drawing;
 use formats::blocks::Interval;
 use formats::report::Record;
 use formats::source;
@@ -53,7 +55,8 @@ pub fn page_text(rule: &Rule) -> Result<String> {
         program::places(&rule.job, &records).map_err(|message| fault(&rule.name, message))?;
     let page = Page::new(rule, &records);
     let title = escape(&page.title);
-    let (picture, anchors) = picture::html(&page);
+    let mut drawing = Drawing::new(&page);
+    let picture = picture::html(&mut drawing);
     Ok(format!(
         "<!DOCTYPE html>\n<html lang=\"en\">\n<head>\n<meta charset=\"utf-8\"/>\n\
          <meta name=\"viewport\" content=\"width=device-width, initial-scale=1\"/>\n\
@@ -65,7 +68,7 @@ pub fn page_text(rule: &Rule) -> Result<String> {
          </main>\n{ABOUT}<script>\n{SCRIPT}</script>\n</body>\n</html>\n",
         page.facts(),
         page.legend.html(),
-        paths::html(&page, &anchors),
+        paths::html(&drawing),
         program::html(&page, &places),
     ))
 }
@@ -130,5 +133,85 @@ impl Page<'_> {
             self.legend.all().counted(),
             counted(self.start().len(), "input"),
         )
+    }
+}
+
+#[cfg(test)]
+mod tests {
+    use super::*;
+    use formats::assembler::job_a;
+    use formats::job::Job;
+    use formats::source::assemble;
+
+    fn by_source(text: &str) -> String {
+        let rule = Rule {
+            name: "a.s".to_string(),
+            job: assemble(text).unwrap(),
+            source: Some(text.to_string()),
+        };
+        page_text(&rule).unwrap()
+    }
+
+    fn by_job(job: Job) -> String {
+        page_text(&Rule { name: "a.job".to_string(), job, source: None }).unwrap()
+    }
+
+    #[test]
+    fn the_title_is_the_first_comment_and_markup_in_it_is_none() {
+        let text = "# <script>alert('a & b')</script>\n.input 0..9 # <b>haul</b>\nnop # </code>\n";
+        let page = by_source(text);
+        assert!(page.contains("<h1>&lt;script&gt;alert('a &amp; b')&lt;/script&gt;</h1>"));
+        assert!(page.contains("&lt;b&gt;haul&lt;/b&gt;") && !page.contains("<b>haul"));
+        assert!(page.contains("nop # &lt;/code&gt;") && page.matches("<script>").count() == 1);
+        assert!(by_source("nop").contains("<h1>a.s</h1>"));
+    }
+
+    #[test]
+    fn a_job_has_its_instructions_for_lines() {
+        let page = by_job(job_a());
+        assert!(page.contains("<h1>a.job</h1>") && page.contains("<code>sltu a0, t0, t1</code>"));
+        assert!(page.contains("<a href=\"#at-28\">28</a> <small>ecall</small>"));
+        assert!(page.contains("input 0 →"), "an input without a name has its number");
+    }
+
+    #[test]
+    fn a_page_has_the_whole_listing() {
+        assert_eq!(by_job(Job { first: 1, ..job_a() }), by_job(job_a()));
+    }
+
+    #[test]
+    fn a_path_leads_to_its_row_its_shape_and_its_end() {
+        let page = by_source(include_str!("../jobs/job-a.s"));
+        assert!(page.contains("<a id=\"shape-1\" href=\"#path-1\">"));
+        let row =
+            "<tr id=\"path-1\" data-path=\"1\"><td class=\"n\"><a href=\"#shape-1\">1</a></td>";
+        assert!(page.contains(row));
+        assert!(page.contains(
+            "<td class=\"at\"><a href=\"#at-28\">28</a> <small>line 14: ecall</small></td>"
+        ));
+        let ends = "<span class=\"ends\">end</span> of <a href=\"#path-0\">0</a>, <a href=\"#path-1\">1</a>";
+        assert!(page.contains(ends));
+    }
+
+    #[test]
+    fn registers_are_there_on_request() {
+        let page = by_job(job_a());
+        assert!(page.contains("<details><summary>show</summary>\nsp 4096\nt0 0..9\n"), "{page}");
+    }
+
+    #[test]
+    fn a_rule_without_inputs_has_one_choice_and_no_shape() {
+        let page = by_source("li a7, 93\necall");
+        assert!(page.contains("<b>1 path</b> for 1 choice of 0 inputs."));
+        assert!(!page.contains("class=\"shape"));
+    }
+
+    #[test]
+    fn a_path_that_ends_outside_the_code_has_no_instruction_to_lead_to() {
+        let page = by_source("j 400");
+        assert!(page.contains("<td class=\"at\">400, outside the code</td>"));
+        assert!(
+            page.contains("<a href=\"#end-3\">what to do</a>") && page.contains("id=\"end-3\"")
+        );
     }
 }

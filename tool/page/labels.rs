@@ -211,3 +211,61 @@ fn lines(axis: &Axis, place: impl Fn([u64; 2]) -> String) -> String {
     }
     lines
 }
+
+#[cfg(test)]
+mod tests {
+    use super::*;
+
+    const MAX: u64 = u64::MAX;
+
+    #[test]
+    fn long_values_in_few_letters() {
+        assert_eq!([0, 999_999_999].map(short), ["0", "999999999"]);
+        assert_eq!([MAX, MAX - 4, MAX - 999].map(short), ["MAX", "MAX-4", "MAX-999"]);
+        let power = 1 << 63;
+        assert_eq!([power, power + 1, power - 1].map(short), ["2^63", "2^63+1", "2^63-1"]);
+        assert_eq!([MAX - 1000, 12_345_678_901].map(short), ["1.84e19", "1.23e10"]);
+    }
+
+    #[test]
+    fn places_are_written_exactly() {
+        let written = [0, 1, 50, 12_500, 99_999, WHOLE].map(thousandths);
+        assert_eq!(written, ["0%", "0.001%", "0.05%", "12.5%", "99.999%", "100%"]);
+    }
+
+    #[test]
+    fn a_text_is_shown_from_the_width_on_that_has_room_for_it() {
+        assert_eq!(level(WHOLE, "0..60"), Some(""));
+        assert_eq!(level(WHOLE / 10, "0..60"), Some(" mid"));
+        assert_eq!(level(WHOLE / 20, "0..60"), Some(" wide"));
+        assert_eq!(level(WHOLE / 30, "0..60"), None);
+    }
+
+    /// The ticks of an axis, with the widths that they are shown from on.
+    fn shown(axis: &Axis) -> Vec<(String, &'static str)> {
+        let svg = bottom_axis(axis);
+        let texts = svg.split("<text class=\"tick").skip(1);
+        let of = |text: &str| {
+            let (class, rest) = text.split_once('"').unwrap();
+            let level = LEVELS.iter().rev().find(|(_, level)| class.ends_with(level)).unwrap().1;
+            (rest.split(['>', '<']).nth(1).unwrap().to_string(), level)
+        };
+        texts.map(of).collect()
+    }
+
+    #[test]
+    fn ticks_that_have_room() {
+        let axis = |cuts: &[u64]| Axis::new(cuts.windows(2).map(|pair| (pair[0], pair[1] - 1)), 0);
+        let texts = |cuts: &[u64]| shown(&axis(cuts));
+        let all =
+            |texts: &[&str]| texts.iter().map(|text| (text.to_string(), "")).collect::<Vec<_>>();
+        assert_eq!(texts(&[0, 8, 61]), all(&["0", "60", "8"]));
+        // a single value has no second tick at its end
+        assert_eq!(texts(&[0, 1, 2]), all(&["0", "1"]));
+        assert_eq!(texts(&[7, 8]), all(&["7"]));
+        let many = texts(&(0..=1000).collect::<Vec<_>>());
+        assert_eq!(many[..2], all(&["0", "999"]));
+        let of_level = |level: &str| many.iter().filter(|(_, each)| *each == level).count();
+        assert!(of_level("") > 4 && of_level(" mid") > 3 && of_level(" wide") > 8, "{many:?}");
+    }
+}

@@ -174,3 +174,79 @@ fn advice(end: End, entry: &Entry) -> Vec<String> {
 pub fn swatch(style: &str) -> String {
     format!("<svg class=\"swatch\"><rect class=\"{style}\" width=\"100%\" height=\"100%\"/></svg>")
 }
+
+#[cfg(test)]
+mod tests {
+    use super::*;
+    use crate::library;
+    use crate::rule::Rule;
+    use formats::source::assemble;
+
+    const JOBS: [&str; 3] = [
+        include_str!("../../jobs/loads.s"),
+        include_str!("../../jobs/no-shovel.s"),
+        include_str!("../../jobs/waiting-time.s"),
+    ];
+
+    fn legend(source: &str) -> Legend {
+        let rule = Rule { name: String::new(), job: assemble(source).unwrap(), source: None };
+        Legend::new(&rule.records().unwrap(), &rule.job.intervals)
+    }
+
+    fn number(legend: &Legend, end: End) -> u64 {
+        legend.entries.get(&end).map_or(0, |entry| entry.choices.number().unwrap())
+    }
+
+    #[test]
+    fn choices_are_those_that_the_library_counts() {
+        for source in JOBS {
+            let legend = legend(source);
+            let counts = library::count(&assemble(source).unwrap().to_bytes());
+            assert_eq!(legend.values, counts.values[..counts.used as usize]);
+            for (place, &choices) in counts.choices[..counts.used as usize].iter().enumerate() {
+                assert_eq!(number(&legend, End::Exit(place)), choices);
+            }
+            assert_eq!(number(&legend, End::Varies), counts.varying);
+            for (kind, &choices) in counts.kinds.iter().enumerate() {
+                assert_eq!(number(&legend, End::Other(kind as u64)), choices);
+            }
+            assert_eq!(legend.all().number(), Some(counts.total));
+        }
+    }
+
+    #[test]
+    fn every_end_has_its_fill_and_its_words() {
+        let legend = legend(JOBS[0]);
+        let ends = legend.entries.keys().map(|&end| (legend.end_style(end), legend.words(end)));
+        let ends: Vec<(String, String)> = ends.collect();
+        let wanted = [
+            ("v1", "exit with 0"),
+            ("v3", "exit with 8"),
+            ("v5", "exit with 16"),
+            ("v7", "exit with 24"),
+            ("v9", "exit with 32"),
+            ("vary", "exit varies with an input"),
+            ("k8", "not followed"),
+        ];
+        assert_eq!(ends, wanted.map(|(style, words)| (style.to_string(), words.to_string())));
+    }
+
+    #[test]
+    fn an_end_that_is_no_exit_says_what_to_do() {
+        let html = legend(JOBS[0]).html();
+        assert!(html.contains("<b>both operands vary</b>: Two varying values cannot be added,"));
+        assert!(html.contains("count up to it with <code>beq</code>"), "{html}");
+        let endless = legend(".limit 9\nj 0").html();
+        assert!(endless.contains("<p>Look for a loop that does not end;"), "{endless}");
+    }
+
+    #[test]
+    fn many_values_share_entries() {
+        let source = ".input 0..49\nli a7, 63\nli a2, 8\necall\nld t0, 0(zero)\n\
+                      next: beq t0, t1, done\naddi t1, t1, 1\nj next\ndone: mv a0, t1\nli a7, 93\necall";
+        let legend = legend(source);
+        assert_eq!((legend.values.len(), legend.entries.len()), (50, SHADES));
+        assert_eq!(legend.words(End::Exit(1)), "exit with one value from 5 to 9");
+        assert_eq!(legend.end_style(End::Exit(9)), "v9");
+    }
+}

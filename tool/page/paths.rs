@@ -1,9 +1,9 @@
 //! The table of paths.
 
 use super::choices::Choices;
+use super::drawing::Drawing;
 use super::html::{cell_interval, escape, interval};
 use super::legend::swatch;
-use super::picture::Anchors;
 use super::program::inside;
 use super::Page;
 use formats::instruction::register_name;
@@ -16,20 +16,17 @@ const PART: usize = 250;
 /// A cell's class and its text as it is shown.
 type Cell = (&'static str, String);
 
-pub fn html(page: &Page, anchors: &Anchors) -> String {
-    let parts = page.records.chunks(PART).zip((0..).step_by(PART));
-    parts.map(|(records, first)| part(page, anchors, records, first)).collect()
+pub fn html(drawing: &Drawing) -> String {
+    let parts = drawing.page.records.chunks(PART).zip((0..).step_by(PART));
+    parts.map(|(records, first)| part(drawing, records, first)).collect()
 }
 
-fn part(page: &Page, anchors: &Anchors, records: &[Record], first: usize) -> String {
-    let rows: String = records
-        .iter()
-        .zip(first..)
-        .map(|(record, path)| row(page, anchors, record, path))
-        .collect();
+fn part(drawing: &Drawing, records: &[Record], first: usize) -> String {
+    let rows: String =
+        records.iter().zip(first..).map(|(record, path)| row(drawing, record, path)).collect();
     format!(
         "<div class=\"scroll part\"><table class=\"paths\">\n{}<tbody>\n{rows}</tbody>\n</table></div>\n",
-        heading(page)
+        heading(drawing.page)
     )
 }
 
@@ -41,12 +38,12 @@ fn heading(page: &Page) -> String {
     format!("<thead><tr>{names}</tr></thead>\n")
 }
 
-fn row(page: &Page, anchors: &Anchors, record: &Record, path: usize) -> String {
-    let cells: String = cells(page, record)
+fn row(drawing: &Drawing, record: &Record, path: usize) -> String {
+    let cells: String = cells(drawing.page, record)
         .iter()
         .map(|(class, text)| format!("<td class=\"{class}\">{text}</td>"))
         .collect();
-    let number = anchors.link(path);
+    let number = drawing.link(path);
     format!(
         "<tr id=\"path-{path}\" data-path=\"{path}\"><td class=\"n\">{number}</td>{cells}</tr>\n"
     )

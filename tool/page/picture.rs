@@ -2,13 +2,13 @@
 
 use super::axis::{Axis, WHOLE};
 use super::bands;
-use super::html::{counted, escape, interval, Ranges};
+use super::drawing::Drawing;
+use super::html::{escape, interval};
 use super::labels::{bottom_axis, left_axis, shape_label, thousandths};
 use super::shapes::{shapes, Pixel, Shape, Tile};
 use super::Page;
 use formats::blocks::Interval;
-use formats::report::{end_text, Record};
-use std::collections::BTreeSet;
+use formats::report::Record;
 use std::ops::Range;
 
 /// With more small planes than this, bands read better.
@@ -30,48 +30,26 @@ const LEAST_HEIGHT: u64 = 18;
 /// Shapes of fewer pixels have hardly an outline, which would hide them.
 const THIN: u64 = 8;
 
+const READ_SHAPES: &str = "Each shape is a path. Below its number stands what it exits with; 1..8 is some value from 1 to 8.";
+const READ_BANDS: &str =
+    "Each row is a path, with a band for each input, in the fill of what it leads to.";
+const POINT: &str = "Point at a path, here or below: its shapes, its row and the instructions that it passes light up.";
+
 /// So many pixels of a side that is so long.
 pub fn pixels(count: u64, side: u64) -> u64 {
     count * WHOLE / side
 }
 
-/// The picture, and where in it each path is.
-pub fn html(page: &Page) -> (String, Anchors) {
-    let mut anchors = Anchors { of_path: vec![None; page.records.len()], count: 0 };
+pub fn html(drawing: &mut Drawing) -> String {
+    let page = drawing.page;
     if page.start().is_empty() {
-        let text = "<p>The rule has no input, so there is one choice and one path.</p>\n";
-        return (text.to_string(), anchors);
+        return "<p>The rule has no input, so there is one choice and one path.</p>\n".to_string();
     }
-    let html = match layout(page.start(), page.records) {
-        Layout::Bands(inputs) => bands::html(page, &inputs, &mut anchors),
-        Layout::Planes { x, y, rest } => planes(page, x, y, &rest, &mut anchors),
+    let (read, picture, shown) = match layout(page.start(), page.records) {
+        Layout::Bands(inputs) => (READ_BANDS, bands::html(drawing, &inputs), inputs),
+        Layout::Planes(inputs) => (READ_SHAPES, planes(drawing, &inputs), inputs.all()),
     };
-    (html, anchors)
-}
-
-/// The first shape of each path; shapes are numbered as they are drawn.
-pub struct Anchors {
-    of_path: Vec<Option<usize>>,
-    count: usize,
-}
-
-impl Anchors {
-    fn next(&mut self, paths: &[usize]) -> usize {
-        let shape = self.count;
-        self.count += 1;
-        paths.iter().for_each(|&path| {
-            self.of_path[path].get_or_insert(shape);
-        });
-        shape
-    }
-
-    /// A path's number with a link to its shape, if it has one.
-    pub fn link(&self, path: usize) -> String {
-        match self.of_path[path] {
-            Some(shape) => format!("<a href=\"#shape-{shape}\">{path}</a>"),
-            None => path.to_string(),
-        }
-    }
+    format!("<p class=\"note\">{read} {POINT}</p>\n{picture}{}", drawing.note(&shown))
 }
 
 // ---------------------------------------------------------------------------------------------
@@ -79,10 +57,23 @@ impl Anchors {
 
 #[derive(Clone, Debug, PartialEq, Eq)]
 enum Layout {
-    /// A plane for each piece of the rest; without a `y` it is a line.
-    Planes { x: usize, y: Option<usize>, rest: Vec<usize> },
+    Planes(Inputs),
     /// A band for each of these inputs in the row of each path.
     Bands(Vec<usize>),
+}
+
+/// A plane for each piece of the rest; without a `y` it is a line.
+#[derive(Clone, Debug, PartialEq, Eq)]
+struct Inputs {
+    x: usize,
+    y: Option<usize>,
+    rest: Vec<usize>,
+}
+
+impl Inputs {
+    fn all(&self) -> Vec<usize> {
+        [&[self.x], self.y.as_slice(), &self.rest].concat()
+    }
 }
 
 /// All of one or two inputs are shown, and of more those that some path cuts.
@@ -104,7 +95,7 @@ fn layout(start: &[Interval], records: &[Record]) -> Layout {
     }
     sides.sort();
     rest.sort();
-    Layout::Planes { x: sides[0], y: sides.get(1).copied(), rest: rest.to_vec() }
+    Layout::Planes(Inputs { x: sides[0], y: sides.get(1).copied(), rest: rest.to_vec() })
 }
 
 pub fn axis(records: &[Record], input: usize, least: u64) -> Axis {
@@ -126,39 +117,26 @@ struct Sides {
 /// An interval for each input of the rest.
 type Cell = Vec<(usize, Interval)>;
 
-fn planes(
-    page: &Page,
-    x: usize,
-    y: Option<usize>,
-    rest: &[usize],
-    anchors: &mut Anchors,
-) -> String {
-    let (class, size) = match (y, rest) {
+fn planes(drawing: &mut Drawing, inputs: &Inputs) -> String {
+    let records = drawing.page.records;
+    let Inputs { x, y, rest } = inputs;
+    let (class, size) = match (y, &rest[..]) {
         (None, _) => ("line", LINE),
         (_, []) => ("one", PLANE),
         _ => ("small", SMALL_PLANE),
     };
-    let x_axis = axis(page.records, x, pixels(size.least_width, size.width));
+    let x_axis = axis(records, *x, pixels(size.least_width, size.width));
     let least = pixels(LEAST_HEIGHT, size.height);
-    let y_axis = y.map_or_else(Axis::blank, |y| axis(page.records, y, least));
-    let sides = Sides { x, x_axis, y, y_axis, size };
-    let (mut figures, mut drawn) = (String::new(), Vec::new());
-    for cell in cells(page.records, rest) {
-        let shapes = cell_shapes(page.records, &sides, &cell);
-        let svg: String =
-            shapes.iter().map(|shape| shape_html(page, shape, size, anchors)).collect();
-        figures += &figure(page, &sides, &cell, &svg);
-        drawn.extend(shapes);
-    }
-    let widened = [&sides.x_axis, &sides.y_axis].iter().any(|axis| axis.is_widened());
-    let merged = drawn.iter().filter(|shape| shape.paths.len() > 1).flat_map(|shape| &shape.paths);
-    let shown = [&[x], y.as_slice(), rest].concat();
-    let note = note(page, &shown, widened, &merged.copied().collect());
-    let shape = if y.is_none() { "band" } else { "rectangle" };
-    let read = reading(&format!(
-        "Each {shape} is a path. Below its number stands what it exits with; 1..8 is some value from 1 to 8."
-    ));
-    format!("{read}<div class=\"planes {class}\">\n{figures}</div>\n{note}")
+    let y_axis = y.map_or_else(Axis::blank, |y| axis(records, y, least));
+    drawing.widened = x_axis.is_widened() || y_axis.is_widened();
+    let sides = Sides { x: *x, x_axis, y: *y, y_axis, size };
+    let figure = |cell: &Cell| {
+        let shapes = cell_shapes(records, &sides, cell);
+        let shapes: String = shapes.iter().map(|shape| shape_html(drawing, shape, size)).collect();
+        figure(drawing.page, &sides, cell, &shapes)
+    };
+    let figures: String = cells(records, rest).iter().map(figure).collect();
+    format!("<div class=\"planes {class}\">\n{figures}</div>\n")
 }
 
 /// Every way to take a piece of each input of the rest.
@@ -222,92 +200,76 @@ fn figure(page: &Page, sides: &Sides, cell: &Cell, shapes: &str) -> String {
     )
 }
 
-// ---------------------------------------------------------------------------------------------
-// Shapes.
-
-/// A link to the row of the path, or of the first of several.
-fn shape_html(page: &Page, shape: &Shape, size: Size, anchors: &mut Anchors) -> String {
+fn shape_html(drawing: &mut Drawing, shape: &Shape, size: Size) -> String {
     let (x, y) = (&shape.x, &shape.y);
     let place = [x.start, WHOLE - y.end, x.end - x.start, y.end - y.start].map(thousandths);
     let [left, top, width, height] = place;
+    let place = format!("x=\"{left}\" y=\"{top}\" width=\"{width}\" height=\"{height}\"");
     let label = match shape.paths[..] {
-        [path] => shape_label(&page.records[path], shape, size),
+        [path] => shape_label(&drawing.page.records[path], shape, size),
         _ => String::new(),
     };
     let is_thin = |side: &Range<u64>, whole: u64| side.end - side.start < pixels(THIN, whole);
     let class = if is_thin(x, size.width) || is_thin(y, size.height) { " thin" } else { "" };
-    format!(
-        "{}x=\"{left}\" y=\"{top}\" width=\"{width}\" height=\"{height}\"/>{label}</a>\n",
-        shape_start(page, &shape.paths, class, anchors)
-    )
+    drawing.shape(&shape.paths, class, &place, &label)
 }
 
-/// A shape but for its place and what follows it.
-pub fn shape_start(page: &Page, paths: &[usize], class: &str, anchors: &mut Anchors) -> String {
-    let (style, data) = match paths {
-        [path] => (page.legend.style(&page.records[*path]), format!("data-path=\"{path}\"")),
-        _ => {
-            (merged_style(page, paths), format!("data-paths=\"{}\"", Ranges::of(paths).attribute()))
+#[cfg(test)]
+mod tests {
+    use super::*;
+    use crate::rule::Rule;
+    use formats::source::assemble;
+
+    fn layout_of(source: &str) -> Layout {
+        let job = assemble(source).unwrap();
+        let records = Rule { name: String::new(), job: job.clone(), source: None }.records();
+        layout(&job.intervals, &records.unwrap())
+    }
+
+    /// Reads so many inputs of 0..60 and compares some of them with 10 and the numbers that follow.
+    fn compares(inputs: usize, compared: &[(usize, usize)]) -> String {
+        let mut source = ".input 0..60\n".repeat(inputs) + "li a7, 63\nli a2, 8\n";
+        for input in 0..inputs {
+            source += &format!("li a0, 0\nli a1, {}\necall\n", 8 * input);
         }
-    };
-    let (id, path, tip) = (anchors.next(paths), paths[0], escape(&tip(page, paths)));
-    format!(
-        "<a id=\"shape-{id}\" href=\"#path-{path}\"><title>{tip}</title><rect class=\"shape {style}{class}\" {data} "
-    )
-}
-
-/// The fill that the paths share, or one that says that they share none.
-fn merged_style(page: &Page, paths: &[usize]) -> String {
-    let style = |&path: &usize| page.legend.style(&page.records[path]);
-    let first = style(&paths[0]);
-    match paths.iter().all(|path| style(path) == first) {
-        true => first,
-        false => "several".to_string(),
+        for (input, times) in compared {
+            source += &format!("ld t0, {}(zero)\n", 8 * input);
+            for time in 0..*times {
+                source += &format!("li t1, {}\nsltu t2, t0, t1\n", 10 + time);
+            }
+        }
+        source + "li a7, 93\necall\n"
     }
-}
 
-/// What a shape stands for.
-fn tip(page: &Page, paths: &[usize]) -> String {
-    let [path] = paths else {
-        let (first, last) = (paths[0], paths[paths.len() - 1]);
-        return format!(
-            "{} from {first} to {last}, too small to be drawn apart",
-            counted(paths.len(), "path")
-        );
-    };
-    let record = &page.records[*path];
-    let input =
-        |(input, &held): (usize, &Interval)| format!("\n{}: {}", page.name(input), interval(held));
-    let inputs: String = record.intervals.iter().enumerate().map(input).collect();
-    format!("path {path}: {}{inputs}", end_text(record))
-}
+    fn planes_of(x: usize, y: Option<usize>, rest: &[usize]) -> Layout {
+        Layout::Planes(Inputs { x, y, rest: rest.to_vec() })
+    }
 
-/// How to read the picture.
-pub fn reading(what: &str) -> String {
-    format!(
-        "<p class=\"note\">{what} Point at a path, here or below: its shapes, its row and the instructions that it \
-         passes light up.</p>\n"
-    )
-}
+    #[test]
+    fn one_and_two_inputs_are_shown_whole() {
+        assert_eq!(layout_of(&compares(1, &[])), planes_of(0, None, &[]));
+        assert_eq!(layout_of(&compares(2, &[(1, 1)])), planes_of(0, Some(1), &[]));
+        assert_eq!(layout_of(&compares(2, &[])), planes_of(0, Some(1), &[]));
+    }
 
-/// What the picture does not show as it is.
-pub fn note(page: &Page, shown: &[usize], widened: bool, merged: &BTreeSet<usize>) -> String {
-    let mut notes = String::new();
-    if widened {
-        notes +=
-            "Where an axis is dashed, a piece is drawn wider than it is, so that it can be seen. ";
+    #[test]
+    fn of_more_inputs_those_that_are_cut_are_shown() {
+        assert_eq!(layout_of(&compares(3, &[])), planes_of(0, None, &[]));
+        assert_eq!(layout_of(&compares(3, &[(2, 1)])), planes_of(2, None, &[]));
+        assert_eq!(layout_of(&compares(4, &[(3, 1), (1, 2)])), planes_of(1, Some(3), &[]));
     }
-    if !merged.is_empty() {
-        let (merged, all) = (merged.len(), counted(page.records.len(), "path"));
-        notes += &format!("{merged} of {all} have a part that is too small and is drawn together with others; the table has each of them. ");
+
+    #[test]
+    fn the_inputs_with_the_most_pieces_are_the_sides() {
+        let source = compares(4, &[(0, 1), (1, 3), (2, 2), (3, 3)]);
+        assert_eq!(layout_of(&source), planes_of(1, Some(3), &[0, 2]));
     }
-    let unshown = (0..page.start().len()).filter(|input| !shown.contains(input));
-    let unshown: Vec<&str> = unshown.map(|input| page.name(input)).collect();
-    if !unshown.is_empty() {
-        notes += &format!("Not shown, since no path cuts it: {}.", unshown.join(", "));
-    }
-    match notes.is_empty() {
-        true => notes,
-        false => format!("<p class=\"note\">{}</p>\n", escape(notes.trim_end())),
+
+    #[test]
+    fn bands_where_planes_would_be_too_many() {
+        let all: Vec<(usize, usize)> = (0..6).map(|input| (input, 1)).collect();
+        assert_eq!(layout_of(&compares(6, &all)), planes_of(0, Some(1), &[2, 3, 4, 5]));
+        let all: Vec<(usize, usize)> = (0..7).map(|input| (input, 1)).collect();
+        assert_eq!(layout_of(&compares(8, &all)), Layout::Bands((0..7).collect()));
     }
 }

@@ -139,3 +139,73 @@ pub fn word_text(code: u32) -> String {
         None => format!(".code {code:#010X}"),
     }
 }
+
+#[cfg(test)]
+mod tests {
+    use super::*;
+    use crate::rule::Rule;
+    use formats::source::{assemble, notes};
+
+    const JOBS: [&str; 10] = [
+        include_str!("../../jobs/job-a.s"),
+        include_str!("../../jobs/jump.s"),
+        include_str!("../../jobs/loads.s"),
+        include_str!("../../jobs/loop.s"),
+        include_str!("../../jobs/minutes.s"),
+        include_str!("../../jobs/no-shovel.s"),
+        include_str!("../../jobs/roads.s"),
+        include_str!("../../jobs/unfollowed.s"),
+        include_str!("../../jobs/waiting-time.s"),
+        include_str!("../../jobs/wrap.s"),
+    ];
+
+    fn words(source: &str) -> Vec<Word> {
+        let rule = Rule { name: String::new(), job: assemble(source).unwrap(), source: None };
+        places(&rule.job, &rule.records().unwrap()).unwrap().words
+    }
+
+    #[test]
+    fn rules_fork_where_their_comments_say_so() {
+        for source in JOBS {
+            let lines: Vec<&str> = source.lines().collect();
+            for (word, line) in words(source).iter().zip(notes(source).code_lines) {
+                let says = ["# a fork", "the path forks here"]
+                    .iter()
+                    .any(|it| lines[line - 1].contains(it));
+                assert_eq!(!word.parted.is_empty(), says, "{}", lines[line - 1]);
+            }
+        }
+    }
+
+    #[test]
+    fn every_path_parts_from_the_next_and_ends_once() {
+        for source in JOBS {
+            let words = words(source);
+            let paths: usize = words.iter().map(|word| word.ended.count()).sum();
+            let mut parted: Vec<usize> =
+                words.iter().flat_map(|word| word.parted.clone()).collect();
+            parted.sort();
+            assert_eq!(parted, (0..paths - 1).collect::<Vec<_>>());
+        }
+    }
+
+    #[test]
+    fn the_paths_of_the_waiting_time_rule() {
+        let words = words(JOBS[8]);
+        assert_eq!(words[0].passed.attribute(), "0-12");
+        assert_eq!(
+            (words[15].passed.attribute(), &words[14].parted),
+            ("1-12".into(), &vec![0, 4, 8])
+        );
+        assert_eq!(words[24].passed.attribute(), "1,3,5,7,9,11");
+        assert_eq!((words[26].passed.count(), words[26].ended.attribute()), (0, "0-12".into()));
+    }
+
+    #[test]
+    fn a_path_may_end_outside_the_code() {
+        let job = assemble("nop").unwrap();
+        assert_eq!([0, 2, 4, u64::MAX - 3].map(|pc| inside(&job, pc)), [Some(0), None, None, None]);
+        let words = words("nop");
+        assert_eq!((words[0].passed.count(), words[0].ended.count()), (1, 0));
+    }
+}
