@@ -6,8 +6,8 @@ use super::shapes::Shape;
 use formats::numbers::{kind_text, EXITED};
 use formats::report::Record;
 
-/// Widths of a picture in pixels, and the class of what is shown from each of them on.
-const LEVELS: [(u64, &str); 3] = [(220, ""), (440, " mid"), (880, " wide")];
+/// Widths of a plane in pixels, and the class of what is shown from each of them on; the style sheet has them too.
+const LEVELS: [(u64, &str); 4] = [(220, ""), (340, " w340"), (500, " w500"), (880, " w880")];
 
 /// Pixels of a letter, and of a line of text; a little more than most fonts take.
 const LETTER: u64 = 8;
@@ -236,8 +236,9 @@ mod tests {
     #[test]
     fn a_text_is_shown_from_the_width_on_that_has_room_for_it() {
         assert_eq!(level(WHOLE, "0..60"), Some(""));
-        assert_eq!(level(WHOLE / 10, "0..60"), Some(" mid"));
-        assert_eq!(level(WHOLE / 20, "0..60"), Some(" wide"));
+        assert_eq!(level(WHOLE / 8, "0..60"), Some(" w340"));
+        assert_eq!(level(WHOLE / 12, "0..60"), Some(" w500"));
+        assert_eq!(level(WHOLE / 20, "0..60"), Some(" w880"));
         assert_eq!(level(WHOLE / 30, "0..60"), None);
     }
 
@@ -266,6 +267,6 @@ mod tests {
         let many = texts(&(0..=1000).collect::<Vec<_>>());
         assert_eq!(many[..2], all(&["0", "999"]));
         let of_level = |level: &str| many.iter().filter(|(_, each)| *each == level).count();
-        assert!(of_level("") > 4 && of_level(" mid") > 3 && of_level(" wide") > 8, "{many:?}");
+        assert!(of_level("") > 4 && of_level(" w500") > 2 && of_level(" w880") > 8, "{many:?}");
     }
 }

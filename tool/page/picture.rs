@@ -191,9 +191,9 @@ fn figure(page: &Page, sides: &Sides, cell: &Cell, shapes: &str) -> String {
         ),
     };
     format!(
-        "<figure><figcaption>{}</figcaption>{y_name}<div class=\"sides\">{left}\
+        "<figure><figcaption>{}</figcaption>{y_name}<div class=\"sides\">{left}<div class=\"plot\">\
          <svg class=\"plane\" data-x=\"{x}\"{y_input} data-rest=\"{rest}\" height=\"{height}\">\n{shapes}</svg>\
-         {}</div><span class=\"name over\">{} →</span></figure>\n",
+         {}</div></div><span class=\"name over\">{} →</span></figure>\n",
         escape(&caption),
         bottom_axis(&sides.x_axis),
         escape(page.name(x)),

@@ -1,6 +1,6 @@
 //! The program of a rule, with the paths that pass each instruction and where paths end or fork.
 
-use super::html::{counted, escape, path_link, Ranges};
+use super::html::{escape, path_link, Ranges};
 use super::Page;
 use crate::plain;
 use crate::progress;
@@ -95,7 +95,7 @@ fn word_html(page: &Page, places: &Places, word: usize, line: &str, text: &str) 
     let passes = match passed.count() {
         0 if ended.is_empty() => "no path".to_string(),
         0 => String::new(),
-        count if count == all => format!("all {}", counted(all, "path")),
+        count if count == all => "all paths".to_string(),
         count => format!("{count} of {all}: {}", passed.links(MOST_RANGES)),
     };
     let (ends, forks) = (ends_html(ended), forks_html(parted));
