@@ -2,7 +2,8 @@
 archive=target/staticlib/libmirokefa_c.a
 formats=target/tool/libformats.rlib
 tool=target/tool/mirokefa-job
-rust=(rustc -O --edition 2021 -D warnings)
+rust_checked=(rustc --edition 2021 -D warnings) # compiled sooner, and a sum that overflows stops it
+rust=("${rust_checked[@]}" -O)
 with_formats=(--extern "formats=$formats")
 with_library=("${with_formats[@]}" -L "${archive%/*}" -l static=mirokefa_c)
 
