@@ -18,7 +18,7 @@ use crate::{fault, output, Output, Result};
 use drawing::Drawing;
 use formats::blocks::Interval;
 use formats::report::Record;
-use formats::source;
+use formats::{show, source};
 use html::{cell_interval, counted, escape};
 use legend::Legend;
 
@@ -41,6 +41,8 @@ struct Page<'a> {
     names: Vec<String>,
     /// The line of each code word, of a source.
     lines: Vec<usize>,
+    /// Each code word in its place: as its line of the source has it, or as an instruction.
+    code: Vec<String>,
     legend: Legend,
 }
 
@@ -51,8 +53,8 @@ pub fn page(name: &str) -> Result<Output> {
 /// The whole listing, whatever first path the job names.
 pub fn page_text(rule: &Rule) -> Result<String> {
     let records = rule.records()?;
-    let places =
-        program::places(&rule.job, &records).map_err(|message| fault(&rule.name, message))?;
+    let words = program::words(&rule.job, &records);
+    let words = words.map_err(|message| fault(&rule.name, message))?;
     let page = Page::new(rule, &records);
     let title = escape(&page.title);
     let mut drawing = Drawing::new(&page);
@@ -69,26 +71,23 @@ pub fn page_text(rule: &Rule) -> Result<String> {
         page.facts(),
         page.legend.html(),
         paths::html(&drawing),
-        program::html(&page, &places),
+        program::html(&page, &words),
     ))
 }
 
 impl Page<'_> {
     fn new<'a>(rule: &'a Rule, records: &'a [Record]) -> Page<'a> {
-        let notes = rule.source.as_deref().map(source::notes);
         let start = &rule.job.intervals;
-        let comments = notes.as_ref().map_or(vec![None; start.len()], |notes| notes.inputs.clone());
-        let name =
-            |(input, comment): (usize, Option<String>)| comment.unwrap_or(format!("input {input}"));
+        let notes = rule.source.as_deref().map(source::notes).unwrap_or_default();
+        let comment = |input: usize| notes.inputs.get(input).cloned().flatten();
+        let name = |input: usize| comment(input).unwrap_or(format!("input {input}"));
         Page {
             rule,
             records,
-            title: notes
-                .as_ref()
-                .and_then(|notes| notes.title.clone())
-                .unwrap_or(rule.name.clone()),
-            names: comments.into_iter().enumerate().map(name).collect(),
-            lines: notes.map_or(Vec::new(), |notes| notes.code_lines),
+            names: (0..start.len()).map(name).collect(),
+            code: code_texts(rule, &notes.code_lines),
+            title: notes.title.unwrap_or(rule.name.clone()),
+            lines: notes.code_lines,
             legend: Legend::new(records, start),
         }
     }
@@ -100,15 +99,6 @@ impl Page<'_> {
 
     fn name(&self, input: usize) -> &str {
         &self.names[input]
-    }
-
-    /// A code word as its line of the source has it, or as an instruction.
-    fn word_text(&self, word: usize) -> String {
-        let line = self.rule.source.as_ref().and_then(|text| {
-            let line = self.lines[word];
-            Some(format!("line {line}: {}", source::without_comment(text.lines().nth(line - 1)?)))
-        });
-        line.unwrap_or_else(|| program::word_text(self.rule.job.code[word]))
     }
 
     fn facts(&self) -> String {
@@ -134,6 +124,15 @@ impl Page<'_> {
             counted(self.start().len(), "input"),
         )
     }
+}
+
+fn code_texts(rule: &Rule, code_lines: &[usize]) -> Vec<String> {
+    let Some(source) = &rule.source else {
+        return rule.job.code.iter().map(|&word| show::word_text(word)).collect();
+    };
+    let lines: Vec<&str> = source.lines().collect();
+    let text = |&line: &usize| format!("line {line}: {}", source::without_comment(lines[line - 1]));
+    code_lines.iter().map(text).collect()
 }
 
 #[cfg(test)]

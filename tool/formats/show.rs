@@ -27,11 +27,16 @@ pub fn job_text(job: &Job) -> String {
 
 /// The instruction, then its address, its word and where it may jump to.
 pub fn code_line(address: i64, word: u32) -> String {
-    let (shown, note) = match decode(word) {
-        Some(instruction) => (text(&instruction), target_text(&instruction, address)),
-        None => (format!(".code {word:#010X}"), "  no instruction".to_string()),
+    let note = match decode(word) {
+        Some(instruction) => target_text(&instruction, address),
+        None => "  no instruction".to_string(),
     };
-    format!("    {shown:<25}# {address:>4}: {word:08X}{note}\n")
+    format!("    {:<25}# {address:>4}: {word:08X}{note}\n", word_text(word))
+}
+
+/// The instruction, or the word as it is.
+pub fn word_text(word: u32) -> String {
+    decode(word).map_or_else(|| format!(".code {word:#010X}"), |instruction| text(&instruction))
 }
 
 fn target_text(instruction: &Instruction, address: i64) -> String {

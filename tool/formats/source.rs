@@ -50,7 +50,7 @@ pub fn assemble(text: &str) -> Result<Job, Vec<Fault>> {
 // What only a reader sees.
 
 /// What the text of a source says beside its job.
-#[derive(Clone, Debug, PartialEq, Eq)]
+#[derive(Clone, Debug, Default, PartialEq, Eq)]
 pub struct Notes {
     /// The first comment that has a line of its own.
     pub title: Option<String>,

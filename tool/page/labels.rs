@@ -13,7 +13,7 @@ const LEVELS: [(u64, &str); 4] = [(220, ""), (340, " w340"), (500, " w500"), (88
 const LETTER: u64 = 8;
 const TEXT_LINE: u64 = 16;
 
-/// The lowest distance of a word that is written by its distance from a power of two.
+/// A long value that is nearer than this to MAX or to a power of two is written by its distance from it.
 const NEAR: u64 = 1000;
 /// Numbers with more digits than this are rounded beside an axis.
 const MOST_DIGITS: usize = 9;
@@ -58,7 +58,7 @@ fn beside(name: &str, sign: &str, distance: u64) -> String {
 // ---------------------------------------------------------------------------------------------
 // Shapes.
 
-/// The path's number and, below it, what it ends with; the number goes first where both have no room.
+/// The path's number and, below it, what it ends with; where there is room for one line, the end alone.
 pub fn shape_label(record: &Record, shape: &Shape, size: Size) -> String {
     let [width, height] = [&shape.x, &shape.y].map(|side| side.end - side.start);
     let (number, end) = (format!("path {}", record.number), end_label(record, width));

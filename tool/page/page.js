@@ -32,24 +32,25 @@ const rowsOf = paths => {
 };
 
 let lit = [];
-const light = paths => {
+const light = lists => {
+  const meets = own => lists.some(paths => meet(own, paths));
   for (const element of lit) element.classList.remove("lit", "ended");
   const mark = (element, name) => {
     element.classList.add(name);
     lit.push(element);
   };
   lit = [];
-  for (const [element, own] of shapes) if (meet(own, paths)) mark(element, "lit");
+  for (const [element, own] of shapes) if (meets(own)) mark(element, "lit");
   for (const [element, passed, ended] of lines) {
-    if (meet(passed, paths)) mark(element, "lit");
-    if (meet(ended, paths)) mark(element, "ended");
+    if (meets(passed)) mark(element, "lit");
+    if (meets(ended)) mark(element, "ended");
   }
-  for (const row of rowsOf(paths)) if (row) mark(row, "lit");
+  for (const row of rowsOf(lists.flat())) mark(row, "lit");
 };
 const pathsOf = element => {
   const of = element?.closest?.("[data-path], [data-paths], [data-passed], svg a");
   const data = (of?.matches("a") ? of.querySelector("rect") : of)?.dataset;
-  return data ? ranges(data.path ?? data.paths ?? (data.passed || data.ended)) : [];
+  return data ? [data.path, data.paths, data.passed, data.ended].map(ranges) : [];
 };
 for (const event of ["pointerover", "focusin"])
   document.addEventListener(event, there => light(pathsOf(there.target)));

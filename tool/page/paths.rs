@@ -7,8 +7,8 @@ use super::legend::swatch;
 use super::program::inside;
 use super::Page;
 use formats::instruction::register_name;
-use formats::numbers::{kind_text, reason_text, EXITED};
-use formats::report::Record;
+use formats::numbers::EXITED;
+use formats::report::{end_text, Record};
 
 /// Paths of a part of the table: a browser lays out the parts that are seen.
 const PART: usize = 250;
@@ -65,19 +65,16 @@ fn cells(page: &Page, record: &Record) -> Vec<Cell> {
     inputs.chain(after).collect()
 }
 
-/// Kind and reason in words; where something can be done about it, a link to what that is.
+/// In words; where something can be done about it, with a link to what that is.
 fn end(page: &Page, record: &Record) -> String {
-    let swatch = swatch(&page.legend.style(record));
-    let words = match (kind_text(record.kind), record.reason) {
-        (kind, 0) => kind.to_string(),
-        (kind, reason) => format!("{kind}: {}", reason_text(reason)),
-    };
-    let words = escape(&words);
-    let advice = match record.kind {
-        EXITED => String::new(),
-        _ => format!(" <a href=\"#{}\">what to do</a>", page.legend.anchor(record)),
-    };
-    format!("{swatch} {words}{advice}")
+    let (swatch, words) = (swatch(&page.legend.style(record)), escape(&end_text(record)));
+    match record.kind {
+        EXITED => format!("{swatch} {words}"),
+        _ => {
+            let advice = page.legend.anchor(record);
+            format!("{swatch} {words}; <a href=\"#{advice}\">what to do</a>")
+        }
+    }
 }
 
 /// The pc, with its line of the source or its instruction.
@@ -85,10 +82,9 @@ fn at(page: &Page, record: &Record) -> String {
     let pc = record.pc;
     match inside(&page.rule.job, pc) {
         None => format!("{pc}, outside the code"),
-        Some(word) => format!(
-            "<a href=\"#at-{pc}\">{pc}</a> <small>{}</small>",
-            escape(&page.word_text(word))
-        ),
+        Some(word) => {
+            format!("<a href=\"#at-{pc}\">{pc}</a> <small>{}</small>", escape(&page.code[word]))
+        }
     }
 }
 

@@ -4,7 +4,6 @@ use super::html::{escape, path_link, Ranges};
 use super::Page;
 use crate::plain;
 use crate::progress;
-use formats::instruction;
 use formats::job::Job;
 use formats::report::Record;
 use std::sync::atomic::Ordering;
@@ -12,14 +11,9 @@ use std::sync::atomic::Ordering;
 /// Ranges of paths, and forks, that a line names.
 const MOST_RANGES: usize = 6;
 
-/// What the paths do at each code word.
-#[derive(Default)]
-pub struct Places {
-    words: Vec<Word>,
-}
-
+/// What the paths do at a code word.
 #[derive(Clone, Default)]
-struct Word {
+pub struct Word {
     passed: Ranges,
     ended: Ranges,
     /// Paths that parted here from the path after them.
@@ -29,7 +23,7 @@ struct Word {
 /// Which instructions a path passes is found by running the plain machine at the path's lowest inputs, the
 /// witness that the report gives: every choice of the path runs through the same ones. Two paths that follow
 /// each other part at the first instruction whose fork rule sorts their witnesses differently.
-pub fn places(job: &Job, records: &[Record]) -> Result<Places, String> {
+pub fn words(job: &Job, records: &[Record]) -> Result<Vec<Word>, String> {
     progress::shown("plain runs of paths", records.len(), |done| {
         let mut words = vec![Word::default(); job.code.len()];
         let mut before: Option<Vec<plain::Step>> = None;
@@ -48,7 +42,7 @@ pub fn places(job: &Job, records: &[Record]) -> Result<Places, String> {
             before = Some(steps);
             done.fetch_add(1, Ordering::Relaxed);
         }
-        Ok(Places { words })
+        Ok(words)
     })
 }
 
@@ -61,15 +55,15 @@ pub fn inside(job: &Job, pc: u64) -> Option<usize> {
 // ---------------------------------------------------------------------------------------------
 // The table.
 
-pub fn html(page: &Page, places: &Places) -> String {
+pub fn html(page: &Page, words: &[Word]) -> String {
     let rows: String = match &page.rule.source {
         Some(source) => {
             let lines = source.lines().zip(1..);
-            lines.map(|(text, line)| line_html(page, places, line, text)).collect()
+            lines.map(|(text, line)| line_html(page, words, line, text)).collect()
         }
         None => {
-            let words = page.rule.job.code.iter().enumerate();
-            words.map(|(word, &code)| word_html(page, places, word, "", &word_text(code))).collect()
+            let shown = page.code.iter().enumerate();
+            shown.map(|(word, text)| word_html(page, words, word, "", text)).collect()
         }
     };
     let heading = "<thead><tr><th>Line</th><th>Address</th><th>Instruction</th><th>Passed by</th>\
@@ -78,9 +72,9 @@ pub fn html(page: &Page, places: &Places) -> String {
 }
 
 /// A line of the source; one without a code word has its text alone.
-fn line_html(page: &Page, places: &Places, line: usize, text: &str) -> String {
+fn line_html(page: &Page, words: &[Word], line: usize, text: &str) -> String {
     match page.lines.binary_search(&line) {
-        Ok(word) => word_html(page, places, word, &line.to_string(), text),
+        Ok(word) => word_html(page, words, word, &line.to_string(), text),
         Err(_) => format!(
             "<tr class=\"text\"><td class=\"n\">{line}</td><td></td><td colspan=\"3\"><code>{}</code></td></tr>\n",
             escape(text)
@@ -88,8 +82,8 @@ fn line_html(page: &Page, places: &Places, line: usize, text: &str) -> String {
     }
 }
 
-fn word_html(page: &Page, places: &Places, word: usize, line: &str, text: &str) -> String {
-    let Word { passed, ended, parted } = &places.words[word];
+fn word_html(page: &Page, words: &[Word], word: usize, line: &str, text: &str) -> String {
+    let Word { passed, ended, parted } = &words[word];
     let address = 4 * word;
     let all = page.records.len();
     let passes = match passed.count() {
@@ -132,14 +126,6 @@ fn forks_html(parted: &[usize]) -> String {
     format!("<span class=\"forks\">fork</span> {}{rest} ", pairs.join(", "))
 }
 
-/// A code word as an instruction.
-pub fn word_text(code: u32) -> String {
-    match instruction::decode(code) {
-        Some(instruction) => instruction::text(&instruction),
-        None => format!(".code {code:#010X}"),
-    }
-}
-
 #[cfg(test)]
 mod tests {
     use super::*;
@@ -159,16 +145,16 @@ mod tests {
         include_str!("../../jobs/wrap.s"),
     ];
 
-    fn words(source: &str) -> Vec<Word> {
+    fn words_of(source: &str) -> Vec<Word> {
         let rule = Rule { name: String::new(), job: assemble(source).unwrap(), source: None };
-        places(&rule.job, &rule.records().unwrap()).unwrap().words
+        words(&rule.job, &rule.records().unwrap()).unwrap()
     }
 
     #[test]
     fn rules_fork_where_their_comments_say_so() {
         for source in JOBS {
             let lines: Vec<&str> = source.lines().collect();
-            for (word, line) in words(source).iter().zip(notes(source).code_lines) {
+            for (word, line) in words_of(source).iter().zip(notes(source).code_lines) {
                 let says = ["# a fork", "the path forks here"]
                     .iter()
                     .any(|it| lines[line - 1].contains(it));
@@ -180,7 +166,7 @@ mod tests {
     #[test]
     fn every_path_parts_from_the_next_and_ends_once() {
         for source in JOBS {
-            let words = words(source);
+            let words = words_of(source);
             let paths: usize = words.iter().map(|word| word.ended.count()).sum();
             let mut parted: Vec<usize> =
                 words.iter().flat_map(|word| word.parted.clone()).collect();
@@ -191,7 +177,7 @@ mod tests {
 
     #[test]
     fn the_paths_of_the_waiting_time_rule() {
-        let words = words(JOBS[8]);
+        let words = words_of(JOBS[8]);
         assert_eq!(words[0].passed.attribute(), "0-12");
         assert_eq!(
             (words[15].passed.attribute(), &words[14].parted),
@@ -205,7 +191,7 @@ mod tests {
     fn a_path_may_end_outside_the_code() {
         let job = assemble("nop").unwrap();
         assert_eq!([0, 2, 4, u64::MAX - 3].map(|pc| inside(&job, pc)), [Some(0), None, None, None]);
-        let words = words("nop");
+        let words = words_of("nop");
         assert_eq!((words[0].passed.count(), words[0].ended.count()), (1, 0));
     }
 }
