@@ -1,7 +1,7 @@
 # Job A of document 01: is the input below 10?
 # The engine finds where the answer changes and lists one path for each side.
 
-.input 0..255           # the input may be anything from 0 to 255
+.input 0..255           # the input
 .limit 100              # no path takes more than 100 steps
 
         li   a7, 63             # the next ecall is a read; a0 holds 0, as it must

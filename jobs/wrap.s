@@ -2,7 +2,7 @@
 # The machine's words end at 2^64 - 1, and the sum goes on from 0 there. The five highest inputs
 # wrap, so they are a path of their own; one path would show sums from 5 to 4.
 
-.input 0..max           # any number; max is 2^64 - 1
+.input 0..max           # any number
 .limit 100
 
         li   a7, 63             # read the input to address 0

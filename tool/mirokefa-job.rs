@@ -30,7 +30,8 @@ const USAGE: &str = include_str!("usage.txt");
 
 /// Larger pages are not worth their memory: ask for the next one.
 const MOST_PAGE_PATHS: u64 = 65_536;
-const MOST_TEXT_BYTES: usize = 1 << 24;
+/// The witnesses of as many paths as a page may have are shorter.
+const MOST_TEXT_BYTES: usize = 1 << 26;
 
 // Exit statuses.
 const TURNED_AWAY: u8 = 1;

@@ -115,7 +115,7 @@ impl Page<'_> {
         format!(
             "<p class=\"note\">{}, at most {} steps</p>\n\
              <p><b>{}</b> for {} of {}. A choice gives each input a value, and lies in exactly one path. \
-             All choices of a path run through the same instructions to the same end.</p>\n\
+             All choices of a path run through the same instructions to the same end, or to where the engine stops.</p>\n\
              <table class=\"inputs\"><tbody>\n{inputs}</tbody></table>\n",
             escape(&self.rule.name),
             self.rule.job.limit,
@@ -183,7 +183,7 @@ mod tests {
         let page = by_source(include_str!("../jobs/job-a.s"));
         assert!(page.contains("<a id=\"shape-1\" href=\"#path-1\">"));
         let row =
-            "<tr id=\"path-1\" data-path=\"1\"><td class=\"n\"><a href=\"#shape-1\">1</a></td>";
+            "<tr id=\"path-1\" data-path=\"1\"><td class=\"path\"><a href=\"#shape-1\">1</a></td>";
         assert!(page.contains(row));
         assert!(page.contains(
             "<td class=\"at\"><a href=\"#at-28\">28</a> <small>line 14: ecall</small></td>"
@@ -208,7 +208,7 @@ mod tests {
     #[test]
     fn a_path_that_ends_outside_the_code_has_no_instruction_to_lead_to() {
         let page = by_source("j 400");
-        assert!(page.contains("<td class=\"at\">400, outside the code</td>"));
+        assert!(page.contains("<td class=\"at\">400, no instruction there</td>"));
         assert!(
             page.contains("<a href=\"#end-3\">what to do</a>") && page.contains("id=\"end-3\"")
         );

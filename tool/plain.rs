@@ -7,6 +7,7 @@ mod oracle;
 use formats::job::Job;
 use formats::numbers::EXITED;
 use formats::report::Record;
+use oracle::Run;
 pub use oracle::Step;
 
 /// The highest kind that stops the plain machine too; the kinds above stop the engine alone.
@@ -37,8 +38,10 @@ pub fn stops(record: &Record) -> bool {
 
 /// The end for a row of the path, also where the engine has stopped before; what differs from the record is a fault.
 pub fn ending(job: &Job, record: &Record, row: &[u64]) -> Result<Ending, String> {
-    agrees(job, record, row)?;
-    let run = oracle::run_plain(&job.code, &job.memory, row, job.limit);
+    let run = match agrees(job, record, row)? {
+        run if stops(record) => run,
+        _ => oracle::run_plain(&job.code, &job.memory, row, job.limit),
+    };
     let kind = run.stop.unwrap_or(oracle::STEP_LIMIT);
     let value = run.machine.registers[EXIT_REGISTER];
     Ok(Ending { kind, value: if kind == EXITED { value } else { 0 } })
@@ -58,7 +61,7 @@ pub fn parting(one: &[Step], other: &[Step]) -> Option<u64> {
 
 /// A run on a row completes the record's steps, is then at its pc with every register inside its interval, and
 /// stops there if the rule does.
-fn agrees(job: &Job, record: &Record, row: &[u64]) -> Result<(), String> {
+fn agrees(job: &Job, record: &Record, row: &[u64]) -> Result<Run, String> {
     let stops = stops(record);
     let most = record.steps + stops as u64;
     let run = oracle::run_plain(&job.code, &job.memory, row, most);
@@ -68,7 +71,7 @@ fn agrees(job: &Job, record: &Record, row: &[u64]) -> Result<(), String> {
         && run.machine.pc == record.pc
         && run.machine.registers.iter().zip(&record.registers).all(within);
     let number = record.number;
-    agrees.then_some(()).ok_or_else(|| format!("path {number}: a plain run on {row:?} differs"))
+    agrees.then_some(run).ok_or_else(|| format!("path {number}: a plain run on {row:?} differs"))
 }
 
 #[cfg(test)]

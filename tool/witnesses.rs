@@ -22,9 +22,10 @@ pub fn witnesses(name: &str) -> Result<Output> {
 fn written(rule: &Rule, records: &[Record]) -> Result<String> {
     let lines = progress::shown("plain runs of paths", records.len(), |done| {
         let both = records.iter().map(|record| {
-            done.fetch_add(1, Ordering::Relaxed);
             let lowest = line(rule, record, "lowest", &plain::lowest(record))?;
-            Ok([lowest, line(rule, record, "highest", &plain::highest(record))?])
+            let highest = line(rule, record, "highest", &plain::highest(record))?;
+            done.fetch_add(1, Ordering::Relaxed);
+            Ok([lowest, highest])
         });
         both.collect::<Result<Vec<_>>>()
     });

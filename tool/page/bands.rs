@@ -3,8 +3,9 @@
 use super::axis::Axis;
 use super::drawing::Drawing;
 use super::html::escape;
-use super::labels::{bottom_axis, thousandths};
+use super::labels::{bottom_axis, end_label, thousandths};
 use super::picture::{axis, pixels};
+use super::Page;
 
 /// With more paths than this, neighbours of the listing share a row.
 const MOST_ROWS: usize = 400;
@@ -15,10 +16,15 @@ const HIGHEST_ROW: usize = 18;
 const WIDTH: u64 = 1000;
 /// What a piece has at least, so that it can be seen.
 const LEAST_WIDTH: u64 = 12;
-/// A number's height.
-const NUMBER_HEIGHT: usize = 14;
+/// A text's height.
+const TEXT_HEIGHT: usize = 14;
 /// Between rows of this height and more stands an empty pixel.
 const PARTED_ROW: usize = 5;
+
+/// Do several of so many paths share a row?
+pub fn are_shared(paths: usize) -> bool {
+    paths > MOST_ROWS
+}
 
 pub fn html(drawing: &mut Drawing, inputs: &[usize]) -> String {
     let records = drawing.page.records;
@@ -26,7 +32,7 @@ pub fn html(drawing: &mut Drawing, inputs: &[usize]) -> String {
     let rows: Vec<&[usize]> = paths.chunks(paths.len().div_ceil(MOST_ROWS)).collect();
     let height = (HEIGHT / rows.len()).clamp(LOWEST_ROW, HIGHEST_ROW);
     let least = pixels(LEAST_WIDTH, WIDTH / inputs.len() as u64);
-    let mut columns = numbers(&rows, height);
+    let mut columns = numbers(&rows, height) + &ends(drawing.page, &rows, height);
     for &input in inputs {
         let axis = axis(records, input, least);
         drawing.widened |= axis.is_widened();
@@ -46,16 +52,33 @@ pub fn html(drawing: &mut Drawing, inputs: &[usize]) -> String {
 
 /// The numbers of paths, as close as there is room for them.
 fn numbers(rows: &[&[usize]], height: usize) -> String {
-    let number = |(place, row): (usize, &&[usize])| {
-        let y = place * height + height / 2;
-        format!("<text class=\"tick last\" x=\"100%\" y=\"{y}\" dy=\"0.35em\">{}</text>", row[0])
+    let every = TEXT_HEIGHT.div_ceil(height);
+    let numbered = rows.iter().enumerate().step_by(every);
+    texts("path", rows.len(), height, numbered.map(|(row, paths)| (row, paths[0].to_string())))
+}
+
+/// What the path of each row ends with, if there is room for all.
+fn ends(page: &Page, rows: &[&[usize]], height: usize) -> String {
+    if height < TEXT_HEIGHT {
+        return String::new();
+    }
+    let end = |(row, paths): (usize, &&[usize])| (row, end_label(&page.records[paths[0]], 0));
+    texts("exit", rows.len(), height, rows.iter().enumerate().map(end))
+}
+
+/// A column of texts, each with its row.
+fn texts(
+    name: &str,
+    rows: usize,
+    height: usize,
+    texts: impl Iterator<Item = (usize, String)>,
+) -> String {
+    let text = |(row, text): (usize, String)| {
+        let y = row * height + height / 2;
+        format!("<text class=\"tick last\" x=\"100%\" y=\"{y}\" dy=\"0.35em\">{text}</text>")
     };
-    let every = NUMBER_HEIGHT.div_ceil(height);
-    let texts: String = rows.iter().enumerate().step_by(every).map(number).collect();
-    format!(
-        "<figure class=\"numbers\"><figcaption>path</figcaption><svg height=\"{}\">{texts}</svg></figure>\n",
-        rows.len() * height
-    )
+    let (all, texts) = (rows * height, texts.map(text).collect::<String>());
+    format!("<figure class=\"texts\"><figcaption>{name}</figcaption><svg height=\"{all}\">{texts}</svg></figure>\n")
 }
 
 /// From the lowest value of the row's paths to the highest.

@@ -49,6 +49,9 @@ impl Choices {
         };
         match share.as_str() {
             "0.00" => "under 0.01 %".to_string(),
+            "100.00" if self.exact.is_some() && self.exact != all.exact => {
+                "over 99.99 %".to_string()
+            }
             _ => format!("{share} %"),
         }
     }
@@ -84,7 +87,10 @@ mod tests {
         assert_eq!(all.text(), "2^64 or more");
         let (most, least) =
             (Choices::new(&[(0, MAX - 5)], &start), Choices::new(&[(3, 7)], &start));
-        assert_eq!((most.text(), most.share_text(all)), ((MAX - 4).to_string(), "100.00 %".into()));
+        assert_eq!(
+            (most.text(), most.share_text(all)),
+            ((MAX - 4).to_string(), "over 99.99 %".into())
+        );
         assert_eq!((least.text().as_str(), least.share_text(all).as_str()), ("5", "under 0.01 %"));
         let start = [(0, MAX); 8];
         let mut half = start;

@@ -12,7 +12,10 @@ pub fn escape(text: &str) -> String {
             '&' => escaped += "&amp;",
             '"' => escaped += "&quot;",
             '\t' | '\n' => escaped.push(letter),
-            '\u{FFFE}' | '\u{FFFF}' => escaped.push(char::REPLACEMENT_CHARACTER),
+            // no letters, and letters that turn the numbers beside them around
+            '\u{FFFE}' | '\u{FFFF}' | '\u{202A}'..='\u{202E}' | '\u{2066}'..='\u{2069}' => {
+                escaped.push(char::REPLACEMENT_CHARACTER)
+            }
             _ if letter.is_control() => escaped.push(char::REPLACEMENT_CHARACTER),
             _ => escaped.push(letter),
         }
@@ -125,7 +128,7 @@ mod tests {
 
     #[test]
     fn markup_in_text_is_none() {
-        let text = "<script>alert(\"a & b\")</script>\u{1B}\0\r\u{FFFF}\tä";
+        let text = "<script>alert(\"a & b\")</script>\u{1B}\0\u{202E}\u{FFFF}\tä";
         let shown = "&lt;script&gt;alert(&quot;a &amp; b&quot;)&lt;/script&gt;\u{FFFD}\u{FFFD}\u{FFFD}\u{FFFD}\tä";
         assert_eq!(escape(text), shown);
         assert_eq!(

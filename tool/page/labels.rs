@@ -9,9 +9,10 @@ use formats::report::Record;
 /// Widths of a plane in pixels, and the class of what is shown from each of them on; the style sheet has them too.
 const LEVELS: [(u64, &str); 4] = [(220, ""), (340, " w340"), (500, " w500"), (880, " w880")];
 
-/// Pixels of a letter, and of a line of text; a little more than most fonts take.
+/// Pixels of a letter, of a line of text, and of one beside an axis; a little more than most fonts take.
 const LETTER: u64 = 8;
 const TEXT_LINE: u64 = 16;
+const TICK_LINE: u64 = 13;
 
 /// A long value that is nearer than this to MAX or to a power of two is written by its distance from it.
 const NEAR: u64 = 1000;
@@ -71,15 +72,15 @@ pub fn shape_label(record: &Record, shape: &Shape, size: Size) -> String {
         ),
         None => String::new(),
     };
-    match lines {
-        0 => String::new(),
-        1 => text(&end, "end", "0.35em"),
+    match (lines, level(width, &number)) {
+        (0, _) => String::new(),
+        (1, _) | (_, None) => text(&end, "end", "0.35em"),
         _ => text(&number, "number", "-0.35em") + &text(&end, "end", "0.95em"),
     }
 }
 
 /// What a path exits with, or its kind: in words where there is room, and else as the listing has it.
-fn end_label(record: &Record, width: u64) -> String {
+pub fn end_label(record: &Record, width: u64) -> String {
     match (record.kind, record.exit) {
         (EXITED, (low, high)) if low == high => short(low),
         (EXITED, (low, high)) => format!("{}..{}", short(low), short(high)),
@@ -88,10 +89,13 @@ fn end_label(record: &Record, width: u64) -> String {
     }
 }
 
+fn letters(text: &str) -> u64 {
+    LETTER * text.chars().count() as u64
+}
+
 /// The class of a text in a part of a picture, by the narrowest picture in which it has room.
 fn level(width: u64, text: &str) -> Option<&'static str> {
-    let needed = LETTER * text.chars().count() as u64;
-    let fits = |&&(pixels, _): &&(u64, &str)| width * pixels / WHOLE >= needed;
+    let fits = |&&(pixels, _): &&(u64, &str)| width * pixels / WHOLE >= letters(text);
     LEVELS.iter().find(fits).map(|(_, class)| *class)
 }
 
@@ -119,11 +123,10 @@ fn piece_tick(axis: &Axis, piece: usize) -> Tick {
     }
 }
 
-/// Where text stands in pixels, with some room behind it.
-fn extent(place: u64, text: &str, side: u64, letter: u64) -> (u64, u64) {
-    let (at, length) = (place * side / WHOLE, letter * text.chars().count() as u64);
-    let start = at.saturating_sub(length / 2).min(side.saturating_sub(length));
-    (start, start + length + letter / 2)
+/// Where text of this length stands along a side, in pixels; at the ends it is moved inside.
+fn extent(place: u64, length: u64, side: u64) -> (u64, u64) {
+    let start = (place * side / WHOLE).saturating_sub(length / 2).min(side.saturating_sub(length));
+    (start, start + length)
 }
 
 /// Which ticks have room beside those that are shown already; the ends come first, and then every second of those
@@ -149,7 +152,9 @@ pub fn bottom_axis(axis: &Axis) -> String {
     let (mut shown, mut texts) = (Vec::new(), String::new());
     for (pixels, class) in LEVELS {
         let before = shown.len();
-        fit(&ticks, |(place, text)| extent(*place, text, pixels, LETTER), &mut shown);
+        // with a letter between two of them
+        let extent = |(place, text): &Tick| extent(*place, letters(text) + LETTER, pixels);
+        fit(&ticks, extent, &mut shown);
         for (place, text) in shown[before..].iter().map(|&tick| &ticks[tick]) {
             let anchor = match *place {
                 0 => " start",
@@ -172,10 +177,9 @@ pub fn bottom_axis(axis: &Axis) -> String {
 pub fn left_axis(axis: &Axis, height: u64) -> String {
     let ticks = ticks(axis);
     let mut shown = Vec::new();
-    let text_line = |(place, _): &Tick| extent(*place, "-", height, TEXT_LINE);
-    fit(&ticks, text_line, &mut shown);
-    let longest = shown.iter().map(|&tick| ticks[tick].1.len() as u64).max().unwrap_or(0);
-    let width = LETTER * longest + 6;
+    fit(&ticks, |(place, _)| extent(*place, TICK_LINE, height), &mut shown);
+    let longest = shown.iter().map(|&tick| letters(&ticks[tick].1)).max().unwrap_or(0);
+    let width = longest + 6;
     let text = |&tick: &usize| {
         let (place, text) = &ticks[tick];
         let down = match *place {
@@ -267,6 +271,7 @@ mod tests {
         let many = texts(&(0..=1000).collect::<Vec<_>>());
         assert_eq!(many[..2], all(&["0", "999"]));
         let of_level = |level: &str| many.iter().filter(|(_, each)| *each == level).count();
-        assert!(of_level("") > 4 && of_level(" w500") > 2 && of_level(" w880") > 8, "{many:?}");
+        let counts = LEVELS.map(|(_, level)| of_level(level));
+        assert!(counts.iter().all(|&count| count >= 3), "{many:?}");
     }
 }

@@ -7,10 +7,9 @@ use formats::numbers::{kind_advice, kind_text, reason_advice, reason_text, EXITE
 use formats::report::Record;
 use std::collections::{BTreeMap, BTreeSet};
 
-/// Fills for exit values, from light to dark: `v0` to `v9` in the style sheet.
+/// Fills for exit values, from light to dark: `v0` to `v9` in the style sheet. Of more values, those of one fill
+/// share an entry.
 const SHADES: usize = 10;
-/// With more exit values than this, those of one fill share an entry.
-const MOST_VALUES: usize = 24;
 /// Ranges of paths that an entry names.
 const MOST_RANGES: usize = 8;
 
@@ -67,7 +66,7 @@ impl Legend {
     /// The place of a value's entry among those of exit values.
     fn group(&self, value: u64) -> usize {
         let place = self.values.partition_point(|&each| each < value);
-        match self.values.len() <= MOST_VALUES {
+        match self.values.len() <= SHADES {
             true => place,
             false => self.shade(place),
         }
@@ -85,7 +84,7 @@ impl Legend {
 
     fn end_style(&self, end: End) -> String {
         match end {
-            End::Exit(group) if self.values.len() > MOST_VALUES => format!("v{group}"),
+            End::Exit(group) if self.values.len() > SHADES => format!("v{group}"),
             End::Exit(place) => format!("v{}", self.shade(place)),
             End::Varies => "vary".to_string(),
             End::Other(kind) => format!("k{kind}"),
@@ -116,7 +115,7 @@ impl Legend {
                 }
             }
             End::Varies => format!("{exit} varies with an input"),
-            End::Other(kind) => kind_text(kind).to_string(),
+            End::Other(kind) => format!("{} (end {kind})", kind_text(kind)),
         }
     }
 
@@ -132,7 +131,7 @@ impl Legend {
             advice(end, entry).iter().map(|text| format!("<p>{text}</p>")).collect();
         format!(
             "<tr id=\"{}\" data-paths=\"{}\"><td>{}</td><td><b>{}</b>{advice}</td>\
-             <td class=\"n\">{}</td><td class=\"n\">{}</td><td>{}</td></tr>\n",
+             <td class=\"choices\">{}</td><td class=\"share\">{}</td><td>{}</td></tr>\n",
             anchor(end),
             entry.paths.attribute(),
             swatch(&self.end_style(end)),
@@ -226,7 +225,7 @@ mod tests {
             ("v7", "exit with 24"),
             ("v9", "exit with 32"),
             ("vary", "exit varies with an input"),
-            ("k8", "not followed"),
+            ("k8", "not followed (end 8)"),
         ];
         assert_eq!(ends, wanted.map(|(style, words)| (style.to_string(), words.to_string())));
     }

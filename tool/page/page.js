@@ -1,4 +1,5 @@
 "use strict";
+// The page is XML too, so two signs that begin markup do not stand here: less-than, and the ampersand.
 // What stands for a path lights up with it: its shapes, its row and the instructions that it passes.
 const mostRows = 200;
 const ranges = text => (text ? text.split(",") : []).map(range => {

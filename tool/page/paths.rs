@@ -22,10 +22,11 @@ pub fn html(drawing: &Drawing) -> String {
 }
 
 fn part(drawing: &Drawing, records: &[Record], first: usize) -> String {
+    let class = if drawing.page.records.len() > PART { "scroll part" } else { "scroll" };
     let rows: String =
         records.iter().zip(first..).map(|(record, path)| row(drawing, record, path)).collect();
     format!(
-        "<div class=\"scroll part\"><table class=\"paths\">\n{}<tbody>\n{rows}</tbody>\n</table></div>\n",
+        "<div class=\"{class}\"><table class=\"paths\">\n{}<tbody>\n{rows}</tbody>\n</table></div>\n",
         heading(drawing.page)
     )
 }
@@ -45,7 +46,7 @@ fn row(drawing: &Drawing, record: &Record, path: usize) -> String {
         .collect();
     let number = drawing.link(path);
     format!(
-        "<tr id=\"path-{path}\" data-path=\"{path}\"><td class=\"n\">{number}</td>{cells}</tr>\n"
+        "<tr id=\"path-{path}\" data-path=\"{path}\"><td class=\"path\">{number}</td>{cells}</tr>\n"
     )
 }
 
@@ -58,8 +59,8 @@ fn cells(page: &Page, record: &Record) -> Vec<Cell> {
         ("exit", exit),
         ("at", at(page, record)),
         ("steps", record.steps.to_string()),
-        ("n", choices.text()),
-        ("n", choices.share_text(page.legend.all())),
+        ("choices", choices.text()),
+        ("share", choices.share_text(page.legend.all())),
         ("registers", registers(record)),
     ];
     inputs.chain(after).collect()
@@ -81,7 +82,7 @@ fn end(page: &Page, record: &Record) -> String {
 fn at(page: &Page, record: &Record) -> String {
     let pc = record.pc;
     match inside(&page.rule.job, pc) {
-        None => format!("{pc}, outside the code"),
+        None => format!("{pc}, no instruction there"),
         Some(word) => {
             format!("<a href=\"#at-{pc}\">{pc}</a> <small>{}</small>", escape(&page.code[word]))
         }

@@ -24,15 +24,19 @@ pub struct Size {
 }
 
 const LINE: Size = Size { width: 1000, height: 76, least_width: 64 };
-const PLANE: Size = Size { width: 640, height: 360, least_width: 40 };
+const PLANE: Size = Size { width: 640, height: 360, least_width: 64 };
 const SMALL_PLANE: Size = Size { width: 260, height: 200, least_width: 22 };
 const LEAST_HEIGHT: u64 = 18;
 /// Shapes of fewer pixels have hardly an outline, which would hide them.
 const THIN: u64 = 8;
 
-const READ_SHAPES: &str = "Each shape is a path. Below its number stands what it exits with; 1..8 is some value from 1 to 8.";
+const READ_SHAPES: &str = "Each shape is a path. In bold stands what it exits with or how it ends (1..8: some value from 1 to 8), \
+                           and above that, where there is room, its number.";
 const READ_BANDS: &str =
     "Each row is a path, with a band for each input, in the fill of what it leads to.";
+const READ_SHARED_BANDS: &str =
+    "Each row is several paths that follow each other, with a band for each input, \
+                                 from their lowest value to their highest.";
 const POINT: &str = "Point at a path, here or below: its shapes, its row and the instructions that it passes light up.";
 
 /// So many pixels of a side that is so long.
@@ -46,6 +50,9 @@ pub fn html(drawing: &mut Drawing) -> String {
         return "<p>The rule has no input, so there is one choice and one path.</p>\n".to_string();
     }
     let (read, picture, shown) = match layout(page.start(), page.records) {
+        Layout::Bands(inputs) if bands::are_shared(page.records.len()) => {
+            (READ_SHARED_BANDS, bands::html(drawing, &inputs), inputs)
+        }
         Layout::Bands(inputs) => (READ_BANDS, bands::html(drawing, &inputs), inputs),
         Layout::Planes(inputs) => (READ_SHAPES, planes(drawing, &inputs), inputs.all()),
     };

@@ -27,7 +27,7 @@ pub struct Pixel {
 }
 
 /// Tiles that cover the plane as shapes that cover it: cells of a pixel or more that are all of one path make
-/// its shape, and each cell that several paths share is a shape by itself.
+/// its shape, and cells that several paths share are shapes by themselves.
 pub fn shapes(x: &Axis, y: &Axis, tiles: &[Tile], pixel: Pixel) -> Vec<Shape> {
     let (columns, rows) = (Cells::new(x, pixel.x), Cells::new(y, pixel.y));
     let mut shared = vec![Vec::new(); columns.count() * rows.count()];
@@ -48,9 +48,21 @@ pub fn shapes(x: &Axis, y: &Axis, tiles: &[Tile], pixel: Pixel) -> Vec<Shape> {
     for (cell, paths) in shared.into_iter().enumerate().filter(|(_, paths)| !paths.is_empty()) {
         let (column, row) = (cell % columns.count(), cell / columns.count());
         let (x, y) = (columns.places(&(column..column + 1)), rows.places(&(row..row + 1)));
-        shapes.push(Shape { x, y, paths });
+        add_shared(&mut shapes, Shape { x, y, paths });
     }
     shapes
+}
+
+/// A cell that goes on to the right with the same paths makes the shape before it longer.
+fn add_shared(shapes: &mut Vec<Shape>, cell: Shape) {
+    match shapes.last_mut() {
+        Some(last)
+            if last.paths == cell.paths && last.y == cell.y && last.x.end == cell.x.start =>
+        {
+            last.x.end = cell.x.end;
+        }
+        _ => shapes.push(cell),
+    }
 }
 
 /// A side in cells of a pixel or more, each of whole pieces.
