@@ -1,6 +1,6 @@
 //! Bands: a row for each path, with a band for each input, where small planes would be too many.
 
-use super::axis::Axis;
+use super::axis::{Axis, WHOLE};
 use super::drawing::Drawing;
 use super::html::escape;
 use super::labels::{bottom_axis, end_label, thousandths};
@@ -16,6 +16,8 @@ const HIGHEST_ROW: usize = 18;
 const WIDTH: u64 = 1000;
 /// What a piece has at least, so that it can be seen.
 const LEAST_WIDTH: u64 = 12;
+/// What the band of several paths has at least, as one of tens of thousands of pieces may have no width at all.
+const LEAST_SHARED: u64 = WHOLE / 200;
 /// A text's height.
 const TEXT_HEIGHT: usize = 14;
 /// Between rows of this height and more stands an empty pixel.
@@ -94,10 +96,11 @@ fn band(
     let start = held().map(|span| span.start).min().unwrap_or(0);
     let end = held().map(|span| span.end).max().unwrap_or(0);
     let (left, right) = (axis.places[start], axis.places[end]);
+    let width = (right - left).max(if row.len() > 1 { LEAST_SHARED } else { 0 });
     let place = format!(
         "x=\"{}\" width=\"{}\" y=\"{y}\" height=\"{}\"",
-        thousandths(left),
-        thousandths(right - left),
+        thousandths(left.min(WHOLE - width)),
+        thousandths(width),
         height - (height >= PARTED_ROW) as usize,
     );
     drawing.shape(row, "", &place, "")
