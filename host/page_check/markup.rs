@@ -1,4 +1,4 @@
-//! A page's elements, read as XML: what is not well-formed is a fault. `page_check` has its tests.
+//! A page's elements, read as XML: what is not well-formed is a fault. `main` has its tests.
 
 use std::ops::Range;
 
@@ -26,6 +26,11 @@ impl Element {
     }
 }
 
+/// Large letters and a prefix make no other name for some readers.
+pub fn is_called(name: &str, wanted: &str) -> bool {
+    name.split(':').any(|part| part.eq_ignore_ascii_case(wanted))
+}
+
 pub struct Page<'a> {
     pub source: &'a str,
     pub text: String,
@@ -35,6 +40,11 @@ pub struct Page<'a> {
 impl Page<'_> {
     pub fn text(&self, element: &Element) -> &str {
         self.text[element.text.clone()].trim()
+    }
+
+    /// The text as a browser shows it: blanks and ends of lines between words are one blank.
+    pub fn words(&self, element: &Element) -> String {
+        self.text(element).split_ascii_whitespace().collect::<Vec<&str>>().join(" ")
     }
 
     pub fn inside(&self, element: &Element) -> &[Element] {
@@ -49,6 +59,16 @@ impl Page<'_> {
 
     pub fn named<'b>(&'b self, name: &'b str) -> impl Iterator<Item = &'b Element> {
         self.elements.iter().filter(move |element| element.name == name)
+    }
+
+    pub fn cells<'b>(&'b self, row: &Element, class: &str) -> Vec<&'b Element> {
+        self.inside(row).iter().filter(|element| element.is("td", class)).collect()
+    }
+
+    /// Where the links in an element lead to, and their texts.
+    pub fn links<'b>(&'b self, element: &Element) -> Vec<(&'b str, String)> {
+        let links = self.inside(element).iter().filter(|inner| is_called(&inner.name, "a"));
+        links.map(|link| (link.get("href").unwrap_or_default(), self.words(link))).collect()
     }
 }
 
