@@ -1,4 +1,4 @@
-//! Makes, shows and explores jobs, places rows in their paths and counts their choices. A job's blocks,
+//! Makes, shows, explores and draws jobs, places rows in their paths and counts their choices. A job's blocks,
 //! exploring, placing, counting and the text of a sheet are the proved library's; the rest is not proved.
 
 mod count;
