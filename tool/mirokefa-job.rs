@@ -137,7 +137,11 @@ fn read_blocks(name: &str) -> Result<Vec<u8>> {
 
 /// A job from its source or from its blocks.
 fn read_job(name: &str) -> Result<Job> {
-    job::read(&read_blocks(name)?).map_err(Stop::Refused)
+    job_of(&read_blocks(name)?)
+}
+
+fn job_of(blocks: &[u8]) -> Result<Job> {
+    job::read(blocks).map_err(Stop::Refused)
 }
 
 // ---------------------------------------------------------------------------------------------

@@ -18,8 +18,9 @@ use crate::{fault, output, Output, Result};
 use drawing::Drawing;
 use formats::blocks::Interval;
 use formats::report::Record;
+use formats::rows::counted;
 use formats::{show, source};
-use html::{cell_interval, counted, escape};
+use html::{cell_interval, escape};
 use legend::Legend;
 
 const STYLE: &str = include_str!("page/page.css");
@@ -140,19 +141,33 @@ mod tests {
     use super::*;
     use formats::assembler::job_a;
     use formats::job::Job;
-    use formats::source::assemble;
+    use formats::numbers::{kind_occurs, KINDS};
 
     fn by_source(text: &str) -> String {
-        let rule = Rule {
-            name: "a.s".to_string(),
-            job: assemble(text).unwrap(),
-            source: Some(text.to_string()),
-        };
-        page_text(&rule).unwrap()
+        page_text(&Rule::of_source(text)).unwrap()
     }
 
     fn by_job(job: Job) -> String {
-        page_text(&Rule { name: "a.job".to_string(), job, source: None }).unwrap()
+        page_text(&Rule::of_job(job)).unwrap()
+    }
+
+    #[test]
+    fn the_style_sheet_has_every_fill() {
+        let values = (0..legend::SHADES).map(|shade| format!("v{shade}"));
+        let kinds = (2..=KINDS).filter(|&kind| kind_occurs(kind)).map(|kind| format!("k{kind}"));
+        let others = ["vary", drawing::SEVERAL].map(String::from);
+        for style in values.chain(kinds).chain(others) {
+            assert!(STYLE.contains(&format!(".{style} {{ fill: ")), "{style}");
+        }
+    }
+
+    #[test]
+    fn the_style_sheet_has_the_widths_of_labels() {
+        for (pixels, class) in &labels::LEVELS[1..] {
+            let (below, class) = (pixels - 1, class.trim());
+            let rule = format!("(max-width: {below}px) {{ .{class} {{ display: none; }} }}");
+            assert!(STYLE.contains(&rule), "{rule}");
+        }
     }
 
     #[test]
@@ -162,13 +177,15 @@ mod tests {
         assert!(page.contains("<h1>&lt;script&gt;alert('a &amp; b')&lt;/script&gt;</h1>"));
         assert!(page.contains("&lt;b&gt;haul&lt;/b&gt;") && !page.contains("<b>haul"));
         assert!(page.contains("nop # &lt;/code&gt;") && page.matches("<script>").count() == 1);
-        assert!(by_source("nop").contains("<h1>a.s</h1>"));
+        assert!(by_source("nop").contains("<h1>rule.s</h1>"));
     }
 
     #[test]
     fn a_job_has_its_instructions_for_lines() {
         let page = by_job(job_a());
-        assert!(page.contains("<h1>a.job</h1>") && page.contains("<code>sltu a0, t0, t1</code>"));
+        assert!(
+            page.contains("<h1>rule.job</h1>") && page.contains("<code>sltu a0, t0, t1</code>")
+        );
         assert!(page.contains("<a href=\"#at-28\">28</a> <small>ecall</small>"));
         assert!(page.contains("input 0 →"), "an input without a name has its number");
     }

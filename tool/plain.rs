@@ -82,7 +82,7 @@ mod tests {
     use formats::source::assemble;
 
     fn records(job: &Job) -> Vec<Record> {
-        Rule { name: "rule".to_string(), job: job.clone(), source: None }.records().unwrap()
+        Rule::of_job(job.clone()).records().unwrap()
     }
 
     #[test]

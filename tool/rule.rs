@@ -1,6 +1,8 @@
 //! A rule with all of its paths, for the commands that need the whole listing.
 
-use crate::{assembled, explore_page, fault, is_source, progress, read_job, read_text};
+use crate::{
+    assembled, explore_page, fault, form, is_source, job_of, progress, read_job, read_text,
+};
 use crate::{Result, MOST_PAGE_PATHS};
 use formats::job::Job;
 use formats::limits::path_bytes;
@@ -16,7 +18,7 @@ pub struct Rule {
 pub fn read(name: &str) -> Result<Rule> {
     let source = if is_source(name) { Some(read_text(name)?) } else { None };
     let job = match &source {
-        Some(text) => assembled(name, text)?,
+        Some(text) => job_of(&form::written(&assembled(name, text)?)?)?,
         None => read_job(name)?,
     };
     Ok(Rule { name: name.to_string(), job, source })
@@ -39,4 +41,17 @@ pub fn whole_report(name: &str, job: &Job, most: usize) -> Result<Vec<u8>> {
     }
     report.truncate(reply.count as usize * path_bytes(job.intervals.len()));
     Ok(report)
+}
+
+/// Rules of tests.
+#[cfg(test)]
+impl Rule {
+    pub fn of_job(job: Job) -> Rule {
+        Rule { name: "rule.job".to_string(), job, source: None }
+    }
+
+    pub fn of_source(text: &str) -> Rule {
+        let job = formats::source::assemble(text).expect("a source without faults");
+        Rule { name: "rule.s".to_string(), job, source: Some(text.to_string()) }
+    }
 }

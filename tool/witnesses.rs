@@ -64,7 +64,7 @@ mod tests {
     use formats::source::assemble;
 
     fn text(job: Job) -> String {
-        let rule = Rule { name: "rule".to_string(), job, source: None };
+        let rule = Rule::of_job(job);
         written(&rule, &rule.records().unwrap()).unwrap()
     }
 
@@ -104,10 +104,11 @@ mod tests {
 
     #[test]
     fn a_record_that_no_run_meets_is_a_fault() {
-        let rule = Rule { name: "rule".to_string(), job: job_a(), source: None };
+        let rule = Rule::of_job(job_a());
         let mut records = rule.records().unwrap();
         records[1].steps = 3;
-        let stop = crate::Stop::Fault("rule: path 1: a plain run on [10] differs\n".to_string());
+        let stop =
+            crate::Stop::Fault("rule.job: path 1: a plain run on [10] differs\n".to_string());
         assert_eq!(written(&rule, &records), Err(stop));
     }
 }

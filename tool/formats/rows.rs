@@ -49,7 +49,8 @@ fn count_fault(text: &str, what: &str, part: &str, count: usize, inputs: usize) 
     (count != inputs).then(|| format!("the {what} has {parts}, and the rule has {wanted}{hint}"))
 }
 
-fn counted(count: usize, what: &str) -> String {
+/// A count and its word.
+pub fn counted(count: usize, what: &str) -> String {
     format!("{count} {what}{}", if count == 1 { "" } else { "s" })
 }
 

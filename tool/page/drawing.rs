@@ -1,14 +1,15 @@
 //! Shapes as a picture has them: filled by what their paths lead to, with a link to the row of the path.
 
-use super::html::{counted, escape, interval, Ranges};
+use super::html::{escape, interval, Ranges};
 use super::legend::swatch;
 use super::Page;
 use formats::blocks::Interval;
 use formats::report::end_text;
+use formats::rows::counted;
 use std::collections::BTreeSet;
 
 /// The fill of paths that are drawn together and lead to different ends.
-const SEVERAL: &str = "several";
+pub const SEVERAL: &str = "several";
 
 /// A picture in the making.
 pub struct Drawing<'a> {

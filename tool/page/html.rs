@@ -1,5 +1,6 @@
 //! Text for a page that is HTML and XML alike.
 
+use formats::rows::counted;
 use std::ops::Range;
 
 /// Text as it is shown: markup in it is none, and what no page may hold is replaced.
@@ -51,11 +52,6 @@ pub fn interval((low, high): (u64, u64)) -> String {
         true => low.to_string(),
         false => format!("{low}..{high}"),
     }
-}
-
-/// A count and its word.
-pub fn counted(count: usize, what: &str) -> String {
-    format!("{count} {what}{}", if count == 1 { "" } else { "s" })
 }
 
 /// Numbers that rise, as the ranges of those that follow each other.

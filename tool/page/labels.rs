@@ -7,7 +7,7 @@ use formats::numbers::{kind_text, EXITED};
 use formats::report::Record;
 
 /// Widths of a plane in pixels, and the class of what is shown from each of them on; the style sheet has them too.
-const LEVELS: [(u64, &str); 4] = [(220, ""), (340, " w340"), (500, " w500"), (880, " w880")];
+pub const LEVELS: [(u64, &str); 4] = [(220, ""), (340, " w340"), (500, " w500"), (880, " w880")];
 
 /// Pixels of a letter, of a line of text, and of one beside an axis; a little more than most fonts take.
 const LETTER: u64 = 8;

@@ -9,7 +9,7 @@ use std::collections::{BTreeMap, BTreeSet};
 
 /// Fills for exit values, from light to dark: `v0` to `v9` in the style sheet. Of more values, those of one fill
 /// share an entry.
-const SHADES: usize = 10;
+pub const SHADES: usize = 10;
 /// Ranges of paths that an entry names.
 const MOST_RANGES: usize = 8;
 
@@ -188,7 +188,7 @@ mod tests {
     ];
 
     fn legend(source: &str) -> Legend {
-        let rule = Rule { name: String::new(), job: assemble(source).unwrap(), source: None };
+        let rule = Rule::of_source(source);
         Legend::new(&rule.records().unwrap(), &rule.job.intervals)
     }
 

@@ -225,12 +225,10 @@ fn shape_html(drawing: &mut Drawing, shape: &Shape, size: Size) -> String {
 mod tests {
     use super::*;
     use crate::rule::Rule;
-    use formats::source::assemble;
 
     fn layout_of(source: &str) -> Layout {
-        let job = assemble(source).unwrap();
-        let records = Rule { name: String::new(), job: job.clone(), source: None }.records();
-        layout(&job.intervals, &records.unwrap())
+        let rule = Rule::of_source(source);
+        layout(&rule.job.intervals, &rule.records().unwrap())
     }
 
     /// Reads so many inputs of 0..60 and compares some of them with 10 and the numbers that follow.

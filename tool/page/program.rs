@@ -147,7 +147,7 @@ mod tests {
     ];
 
     fn words_of(source: &str) -> Vec<Word> {
-        let rule = Rule { name: String::new(), job: assemble(source).unwrap(), source: None };
+        let rule = Rule::of_source(source);
         words(&rule.job, &rule.records().unwrap()).unwrap()
     }
 
