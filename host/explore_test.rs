@@ -1,10 +1,11 @@
 //! Random jobs through the library's border, compared with the oracle.
 //!
 //! A job is a list of calls on one memory and one table. Small boxes are compared with the brute
-//! force byte for byte; large ones with single runs of the plain machine. Before them come products
-//! and quotients by numbers of all sizes.
+//! force byte for byte; large ones with single runs of the plain machine. Before them come the small
+//! examples, and products and quotients by numbers of all sizes.
 //! `explore_test [SEED COUNT]`: job k of a run has the seed SEED + k.
 
+mod examples;
 #[allow(dead_code)] // rows are placed by place_test, sheets printed by sheet_test
 #[path = "../tool/library.rs"]
 mod library;
@@ -547,6 +548,35 @@ fn run_calls(
     Ok(())
 }
 
+/// The job's whole listing by the brute force, page by page; tells how many paths it has.
+fn run_whole(random: &mut Random, lent: &mut Lent, job: Job) -> Result<usize, Failure> {
+    let (listing, met) = oracle::listing_and_met(&job);
+    let paths = listing.len();
+    let mut task = Task::new(job, listing, met);
+    while task.next.is_some() {
+        let page = next_page(random, lent, &mut task);
+        page.map_err(|fault| failure(lent, &task.job, fault))?;
+    }
+    Ok(paths)
+}
+
+/// How many examples there were, and how many of them fork.
+fn run_examples() -> Result<(u64, u64), Failure> {
+    let random = &mut Random(FIRST_SEED);
+    let (mut jobs, mut forks) = (0, 0);
+    for example in examples::all() {
+        let mut memory = example.job.memory.clone();
+        memory.resize(MEMORY_WORDS, 0);
+        let mut lent = lent(random, &memory, example.job.entries as usize * ENTRY_WORDS);
+        let paths = run_whole(random, &mut lent, example.job).map_err(|failure| Failure {
+            fault: format!("{}: {}", example.name, failure.fault),
+            dump: failure.dump,
+        })?;
+        (jobs, forks) = (jobs + 1, forks + (paths > 1) as u64);
+    }
+    Ok((jobs, forks))
+}
+
 /// Powers of two with their neighbours, and others.
 fn numbers() -> BTreeSet<u64> {
     let powers = (0..u64::BITS).map(|exponent| 1 << exponent);
@@ -616,14 +646,7 @@ fn run_scaling(
     // the input is at address 0
     let on_value = [addi(5, 7, 0), word, addi(7, 28, 0), ld(5, 0, 0)];
     let job = numbers_job(&lent, &[&on_value[..], &[word], compare].concat(), boxed);
-    let (listing, met) = oracle::listing_and_met(&job);
-    let paths = listing.len();
-    let mut task = Task::new(job, listing, met);
-    while task.next.is_some() {
-        let page = next_page(random, &mut lent, &mut task);
-        page.map_err(|fault| failure(&lent, &task.job, fault))?;
-    }
-    Ok(paths)
+    run_whole(random, &mut lent, job)
 }
 
 /// MUL on boxes from 0 to the last value with two quotients, and to the next, which has reason 5.
@@ -680,6 +703,13 @@ fn arguments() -> (u64, u64) {
 
 fn main() {
     let (seed, count) = arguments();
+    match run_examples() {
+        Ok((jobs, forks)) => println!("{jobs} examples, {forks} fork, 0 differ"),
+        Err(failure) => {
+            show("of an example", &failure);
+            std::process::exit(1)
+        }
+    }
     let scaled = run_scalings().and_then(|counts| Ok((counts, run_wide_products()?)));
     match scaled {
         Ok(((jobs, forks), wide)) => println!(

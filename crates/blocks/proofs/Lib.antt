@@ -7,6 +7,7 @@
 --     Rows        the words of a path's two blocks, as the code has them
 --     Records     the words of a report's records
 --     Reading     the bytes of a path's record, read back, tell the path
+--     Said        what the reader of a record finds is what the path says
 --     Checks      every check of written records agrees
 pub mod Bytes
 pub mod Each
@@ -16,4 +17,5 @@ pub mod Written
 pub mod Rows
 pub mod Records
 pub mod Reading
+pub mod Said
 pub mod Checks

@@ -8,7 +8,7 @@ use native.Mathlib.Omega.{arith}
 use lib.ListN.{length, set, take, drop, length-append, take-append-drop}
 use lib.Seq.{take-suc-set, drop-set-lt, append-snoc, take-at, drop-at, length-take-le, drop-drop}
 use Rattle.blocks.specs.Block.{bytesOf}
-use Rattle.blocks.specs.Writing.{put}
+use Rattle.blocks.specs.Working.Writing.{put}
 
 -- one byte of a word more is written
 pub byte-more : (bs : List ℕ) (i e n r : ℕ) → i < length bs → i < e →

@@ -16,6 +16,7 @@ use Rattle.listing.specs.Listing.{Path}
 use Rattle.listing.specs.Numbers.{kindNumber, reasonWord}
 use Rattle.blocks.specs.Block.{blockBytes, payloadWords, check, payload, block, wordAt, agrees}
 use Rattle.blocks.specs.Layout as place
+use Rattle.blocks.specs.Layout.{firstPlaces, lowAt, highAt}
 use Rattle.blocks.specs.Record.{mostInputs, registerOf, exitOf, ends, firstWords, secondWords, recordOf, records, recordBytes}
 use Rattle.blocks.specs.Reading.{second, Tells}
 use Rattle.blocks.specs.Report.{recordAt}
@@ -107,11 +108,11 @@ module _ (n : ℕ) (p : Path) (inputs : length (p .box) ≤ mostInputs) (registe
   few-highs : length (highs (p .box)) ≤ mostInputs
   few-highs = rw length-map inputs
 
-  first-low : (i : ℕ) → i < mostInputs → getD (firstWords n p) (place.lows + i) 0 ≡ at (lows (p .box)) i
+  first-low : (i : ℕ) → i < firstPlaces → getD (firstWords n p) (place.lows + i) 0 ≡ at (lows (p .box)) i
   unfolding firstWords
   first-low = low-at head (lows (p .box)) (highs (p .box)) tail refl few-lows few-highs
 
-  first-high : (i : ℕ) → i < mostInputs → getD (firstWords n p) (place.highs + i) 0 ≡ at (highs (p .box)) i
+  first-high : (i : ℕ) → i < firstPlaces → getD (firstWords n p) (place.highs + i) 0 ≡ at (highs (p .box)) i
   unfolding firstWords
   first-high = high-at head (lows (p .box)) (highs (p .box)) tail refl few-lows few-highs
 
@@ -173,7 +174,7 @@ module _ (n : ℕ) (p : Path) (f : Fits n p) where
       (second-word (1 + 2 * r) (omega arith) ∙ e .0, second-word (2 + 2 * r) (omega arith) ∙ e .1)
 
   pub record-tells : Tells bytes n p
-  unfolding firstWords secondWords
+  unfolding firstWords secondWords lowAt highAt
   record-tells =
       record {
         size = record-length n p (f .inputs) (f .registers);

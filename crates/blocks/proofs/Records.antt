@@ -7,8 +7,8 @@ use native.Mathlib.Nat.{mul-suc, mul-le-mul-left, mul-div-le}
 use native.Mathlib.Omega.{arith}
 use lib.ListN.{length, take, drop, length-drop, take-append-drop}
 use lib.Seq.{length-take-le, take-at, drop-append-add}
-use Rattle.blocks.specs.Block.{wordBytes, blockWords, wordAt}
-use Rattle.blocks.specs.Record.{recordBytes}
+use Rattle.blocks.specs.Block.{wordBytes, wordAt}
+use Rattle.blocks.specs.Record.{recordWords, recordBytes}
 use Rattle.blocks.specs.Report.{recordsIn, recordAt}
 use Rattle.blocks.proofs.Bytes.{word-from, word-left}
 
@@ -19,7 +19,7 @@ part-inside size l k h = omega (arith, mul-suc size k, mul-le-mul-left {m = suc 
 pub record-inside : (n : ℕ) (report : List ℕ) (k : ℕ) → k < recordsIn n report → recordBytes n * k + recordBytes n ≤ length report
 record-inside n = part-inside (recordBytes n)
 
-pub record-read : (n : ℕ) (report : List ℕ) (k p : ℕ) → k < recordsIn n report → p < blockWords
+pub record-read : (n : ℕ) (report : List ℕ) (k p : ℕ) → k < recordsIn n report → p < recordWords n
     → wordAt (drop (recordBytes n * k + p * wordBytes) report) 0 ≡ wordAt (recordAt n report k) p
 record-read n report k p h l =
     let rest = drop (recordBytes n * k) report in

@@ -9,29 +9,27 @@ use native.Mathlib.Omega.{arith}
 use lib.ListN.{length, getD, set, take, drop, replicate, length-append, length-replicate, length-map, length-set, drop-of-length-le, List·getD-append}
 use lib.Seq.{sets, sets-eq, drop-cons, take-at, take-suc-set, take-all, drop-append-le, drop-append-add, getD-append-add}
 use Rattle.boxes.specs.Boxes.{_⋯_, lows, highs}
-use Rattle.boxes.specs.Cuts.{boxIn}
+use Rattle.boxes.specs.Working.Cuts.{boxIn}
 use Rattle.boxes.proofs.TwoLists.{lows-in, highs-in, length-in, at-in}
 use Rattle.listing.specs.Listing.{Path}
 use Rattle.listing.specs.Numbers.{kindNumber, reasonWord}
 use Rattle.blocks.specs.Block.{blockBytes, payloadWords, payload, block}
 use Rattle.blocks.specs.Layout as place
+use Rattle.blocks.specs.Layout.{firstPlaces}
 use Rattle.blocks.specs.Record.{recordBytes, mostInputs, padded, exitWord, firstWords, ends, secondWords, recordOf}
-use Rattle.blocks.specs.Writing.{put, pathIn, withPath}
+use Rattle.blocks.specs.Working.Writing.{put, pathIn, withPath}
 use Rattle.blocks.specs.declared.record.Ended.{Ended}
 use Rattle.blocks.proofs.Bytes.{getD-padded, payload-length, block-length}
 use Rattle.blocks.proofs.Written.{two-blocks}
 
 -- the first block
 
-pub padded-length : (ws : List ℕ) → length ws ≤ mostInputs → length (padded ws) ≡ mostInputs
+pub padded-length : (ws : List ℕ) → length ws ≤ firstPlaces → length (padded ws) ≡ firstPlaces
 padded-length ws l = rw (length-append, length-replicate) (omega arith)
 
 pub first-length : (n : ℕ) (p : Path) → length (p .box) ≤ mostInputs → length (firstWords n p) ≡ place.rest
 unfolding firstWords
-first-length n p l =
-    let a : length (lows (p .box)) ≤ mostInputs = rw length-map l in
-    let b : length (highs (p .box)) ≤ mostInputs = rw length-map l in
-    simp (length-append, padded-length (lows (p .box)) a, padded-length (highs (p .box)) b, length-replicate) (omega arith)
+first-length n p l = simp (length-append, length-replicate, length-map) (omega arith)
 
 pub drop-zeros : (n m : ℕ) → drop n (replicate {A = ℕ} m 0) ≡ replicate (m - n) 0
 drop-zeros zero m = simp unary-clauses
@@ -39,41 +37,41 @@ drop-zeros (suc n) zero = rw zero-sub
 drop-zeros (suc n) (suc m) = simp unary-clauses (drop-zeros n m)
 
 -- the inputs' words, put where there were zeros
-inputs-put : (front rest ws : List ℕ) (at : ℕ) → length front ≡ at → length ws ≤ mostInputs → sets (front ++ (replicate mostInputs 0 ++ rest)) at ws ≡ front ++ (padded ws ++ rest)
+inputs-put : (front rest ws : List ℕ) (at : ℕ) → length front ≡ at → length ws ≤ firstPlaces → sets (front ++ (replicate firstPlaces 0 ++ rest)) at ws ≡ front ++ (padded ws ++ rest)
 inputs-put front rest ws at e few =
-    let z : length (replicate {A = ℕ} mostInputs 0) ≡ mostInputs = length-replicate {A = ℕ} mostInputs 0 in
-    let fits : at + length ws ≤ length (front ++ (replicate mostInputs 0 ++ rest)) = rw (length-append, length-append) (omega arith) in
-    sets-eq ws (front ++ (replicate mostInputs 0 ++ rest)) at fits
+    let z : length (replicate {A = ℕ} firstPlaces 0) ≡ firstPlaces = length-replicate {A = ℕ} firstPlaces 0 in
+    let fits : at + length ws ≤ length (front ++ (replicate firstPlaces 0 ++ rest)) = rw (length-append, length-append) (omega arith) in
+    sets-eq ws (front ++ (replicate firstPlaces 0 ++ rest)) at fits
     ∙ rw (
-      take-at front (replicate mostInputs 0 ++ rest) at e,
+      take-at front (replicate firstPlaces 0 ++ rest) at e,
       ← e,
-      drop-append-add front (replicate mostInputs 0 ++ rest) (length ws),
-      drop-append-le (length ws) (replicate mostInputs 0) rest (omega arith),
+      drop-append-add front (replicate firstPlaces 0 ++ rest) (length ws),
+      drop-append-le (length ws) (replicate firstPlaces 0) rest (omega arith),
       drop-zeros,
       append-assoc front ws,
       append-assoc ws,
     )
 
 -- A block with the lows and the highs of the inputs, at the places that a path's first block and a job's header share.
-module _ (front ls hs back : List ℕ) (size : length front ≡ place.lows) (few-lows : length ls ≤ mostInputs) (few-highs : length hs ≤ mostInputs) where
+module _ (front ls hs back : List ℕ) (size : length front ≡ place.lows) (few-lows : length ls ≤ firstPlaces) (few-highs : length hs ≤ firstPlaces) where
   abbrev pub withEnds : List ℕ
   withEnds = front ++ (padded ls ++ (padded hs ++ back))
 
   -- put where there were zeros
-  pub ends-put : sets (sets (front ++ (replicate mostInputs 0 ++ (replicate mostInputs 0 ++ back))) place.lows ls) place.highs hs ≡ withEnds
+  pub ends-put : sets (sets (front ++ (replicate firstPlaces 0 ++ (replicate firstPlaces 0 ++ back))) place.lows ls) place.highs hs ≡ withEnds
   ends-put =
       let n : length (front ++ padded ls) ≡ place.highs = rw (length-append, padded-length ls few-lows, size) in
       ap (λ (l : List ℕ). sets l place.highs hs)
-      (inputs-put front (replicate mostInputs 0 ++ back) ls place.lows size few-lows ∙ sym (append-assoc front (padded ls) (replicate mostInputs 0 ++ back)))
+      (inputs-put front (replicate firstPlaces 0 ++ back) ls place.lows size few-lows ∙ sym (append-assoc front (padded ls) (replicate firstPlaces 0 ++ back)))
       ∙ inputs-put (front ++ padded ls) back hs place.highs n few-highs
       ∙ append-assoc front (padded ls) (padded hs ++ back)
 
-  pub low-at : (i : ℕ) → i < mostInputs → getD withEnds (place.lows + i) 0 ≡ getD ls i 0
+  pub low-at : (i : ℕ) → i < firstPlaces → getD withEnds (place.lows + i) 0 ≡ getD ls i 0
   low-at i l =
       rw (← size)
       (getD-append-add front (padded ls ++ (padded hs ++ back)) i 0
       ∙ List·getD-append (padded ls) (padded hs ++ back) 0 i (omega (arith, padded-length ls few-lows))
-      ∙ getD-padded ls (mostInputs - length ls) i)
+      ∙ getD-padded ls (firstPlaces - length ls) i)
 
   behind-lows : (i : ℕ) → getD withEnds (place.highs + i) 0 ≡ getD (padded hs ++ back) i 0
   behind-lows i =
@@ -82,11 +80,11 @@ module _ (front ls hs back : List ℕ) (size : length front ≡ place.lows) (few
       (getD-append-add front (padded ls ++ (padded hs ++ back)) (length (padded ls) + i) 0
       ∙ getD-append-add (padded ls) (padded hs ++ back) i 0)
 
-  pub high-at : (i : ℕ) → i < mostInputs → getD withEnds (place.highs + i) 0 ≡ getD hs i 0
+  pub high-at : (i : ℕ) → i < firstPlaces → getD withEnds (place.highs + i) 0 ≡ getD hs i 0
   high-at i l =
       behind-lows i
       ∙ List·getD-append (padded hs) back 0 i (omega (arith, padded-length hs few-highs))
-      ∙ getD-padded hs (mostInputs - length hs) i
+      ∙ getD-padded hs (firstPlaces - length hs) i
 
   pub back-at : (i : ℕ) → getD withEnds (place.exitLow + i) 0 ≡ getD back i 0
   back-at i =
@@ -101,7 +99,7 @@ module _ (p : Ended) (ls hs rls rhs : List ℕ) (few : length ls ≤ mostInputs)
   back = exitWord (p .end) (getD rls 10 0) ∷ exitWord (p .end) (getD rhs 10 0) ∷ reasonWord (p .end) ∷ p .reads ∷ []
 
   abbrev zeros : List ℕ
-  zeros = replicate mostInputs 0
+  zeros = replicate firstPlaces 0
 
   abbrev unused : List ℕ
   unused = replicate (payloadWords - place.rest) 0

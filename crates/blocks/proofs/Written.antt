@@ -9,7 +9,7 @@ use lib.ListN.{length, getD, take, drop, drop-of-length-le}
 use lib.Seq.{length-take-le, take-suc, drop-cons, take-all}
 use Rattle.boxes.specs.Boxes.{from}
 use Rattle.blocks.specs.Block.{wordBytes, blockBytes, payloadWords, bytesOf, turned, checkFrom, check, payload, block}
-use Rattle.blocks.specs.Writing.{put}
+use Rattle.blocks.specs.Working.Writing.{put}
 use Rattle.blocks.proofs.Bytes.{bytesOfAll, bytes-all-append, bytes-all-one, bytes-all-length, getD-padded, payload-length, block-length}
 use Rattle.blocks.proofs.Puts.{put-put}
 

@@ -2,14 +2,14 @@
 use mathlib.Core.Path.{_≡_}
 use mathlib.Core.Bool.{true}
 use mathlib.Core.List.{List}
-use Prim.Native.Nat.{ℕ, _+_, _-_, _*_, _≤_, _<_}
+use Prim.Native.Nat.{ℕ, _-_, _*_, _≤_, _<_}
 use lib.ListN.{length, drop}
 use Rattle.boxes.specs.Boxes.{at, lows, highs}
 use Rattle.listing.specs.Listing.{Path}
 use Rattle.listing.specs.Numbers.{kindNumber, reasonWord}
 use Rattle.blocks.specs.Block.{blockBytes, payloadWords, wordAt, agrees}
 use Rattle.blocks.specs.Layout as place
-use Rattle.blocks.specs.Record.{mostInputs, registerOf, exitOf, recordBytes}
+use Rattle.blocks.specs.Record.{registerOf, exitOf, recordBytes}
 
 abbrev pub second : List ℕ → List ℕ
 second bytes = drop blockBytes bytes
@@ -22,8 +22,8 @@ pub record Tells (bytes : List ℕ) (n : ℕ) (p : Path) : Type 0 where
   pub pc : wordAt bytes place.pc ≡ p .pc
   pub steps : wordAt bytes place.steps ≡ p .steps
   pub inputs : wordAt bytes place.inputs ≡ length (p .box)
-  pub low : (i : ℕ) → i < mostInputs → wordAt bytes (place.lows + i) ≡ at (lows (p .box)) i
-  pub high : (i : ℕ) → i < mostInputs → wordAt bytes (place.highs + i) ≡ at (highs (p .box)) i
+  pub low : (i : ℕ) → i < place.inputPlaces (length (p .box)) → wordAt bytes (place.lowAt (length (p .box)) i) ≡ at (lows (p .box)) i
+  pub high : (i : ℕ) → i < place.inputPlaces (length (p .box)) → wordAt bytes (place.highAt (length (p .box)) i) ≡ at (highs (p .box)) i
   pub exit-low : wordAt bytes place.exitLow ≡ exitOf p .low
   pub exit-high : wordAt bytes place.exitHigh ≡ exitOf p .high
   pub reason : wordAt bytes place.reason ≡ reasonWord (p .end)

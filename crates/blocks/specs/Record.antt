@@ -7,18 +7,23 @@ use Rattle.listing.specs.Listing.{Path}
 use Rattle.listing.specs.Numbers.{kindNumber, reasonWord}
 use Rattle.listing.specs.declared.End.{End}
 use Rattle.listing.specs.declared.End.the-variants.{Exit, BadPc, BadWord, BadAddress, BadCall, StepLimit, NotFollowed, TraceFull}
-use Rattle.blocks.specs.Block.{blockBytes, block}
+use Rattle.blocks.specs.Block.{wordBytes, blockWords, block}
+use Rattle.blocks.specs.Layout.{firstPlaces}
 
 -- the size of a record of so many inputs
-abbrev pub recordBytes : ℕ → ℕ
-recordBytes n = 2 * blockBytes
+abbrev pub recordWords : ℕ → ℕ
+recordWords n = 2 * blockWords
 
--- inputs that a record has places for; unused inputs are 0
+abbrev pub recordBytes : ℕ → ℕ
+recordBytes n = recordWords n * wordBytes
+
+-- questions 2 and 12: the most inputs that a job has
 abbrev pub mostInputs : ℕ
 mostInputs = 8
 
+-- unused inputs are 0
 abbrev pub padded : List ℕ → List ℕ
-padded ws = ws ++ replicate (mostInputs - length ws) 0
+padded ws = ws ++ replicate (firstPlaces - length ws) 0
 
 -- the interval of a register
 abbrev pub registerOf : Path → ℕ → Interval

@@ -12,7 +12,7 @@ ghost use lib.ListN.{length, getD, drop};
 ghost use Rattle.boxes.specs.Boxes.{from};
 ghost use Rattle.blocks.specs.Block as B;
 ghost use Rattle.blocks.specs.Block.{blockBytes, payloadWords, wordAt, check, block, agrees, checksAgree};
-ghost use Rattle.blocks.specs.Writing.{put};
+ghost use Rattle.blocks.specs.Working.Writing.{put};
 
 // What the running sum of a check starts at.
 const CHECK_START: u64 = 1;

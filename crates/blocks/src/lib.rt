@@ -1,4 +1,4 @@
-// Blocks of 512 bytes, as document 01 lays them out; what a reader must believe stands in specs/.
+// Blocks of 512 bytes, as document 01 lays them out; what a reader must believe stands in specs/ outside Working/.
 // `words` reads and writes one word, `block` the check and a whole block, `record` writes an ended path's two blocks, `report` reads them back.
 // The laws say that what is written is what is read, and that the check tells a changed word.
 pub mod block;
@@ -19,5 +19,5 @@ pub const PAYLOAD_WORDS: usize = BLOCK_WORDS - 1;
 // A path takes two blocks.
 pub const PATH_BYTES: usize = 2 * BLOCK_BYTES;
 
-// Inputs that a record has places for.
+// Questions 2 and 12: the most inputs that a job has.
 pub const MOST_INPUTS: usize = 8;

@@ -21,10 +21,10 @@ ghost use mathlib.Core.List.{_∷_};
 ghost use Prim.Native.Nat.{_+_, _≤_};
 ghost use lib.ListN.{length, drop};
 ghost use lib.Seq.{sets};
-ghost use Rattle.boxes.specs.Cuts.{boxIn};
+ghost use Rattle.boxes.specs.Working.Cuts.{boxIn};
 ghost use Rattle.blocks.specs.Block.{payloadWords, payload};
 ghost use Rattle.blocks.specs.Record.{mostInputs, recordBytes, exitWord, ends, firstWords};
-ghost use Rattle.blocks.specs.Writing.{pathLent, withPath};
+ghost use Rattle.blocks.specs.Working.Writing.{pathLent, withPath};
 
 // An ended path, but for its inputs and registers, which come beside it.
 pub struct Ended {

@@ -4,7 +4,7 @@ ghost use mathlib.Core.Path.{_≡_};
 ghost use Prim.Native.Nat.{_+_, _^_, _≤_, _<_};
 ghost use lib.ListN.{length, take, drop};
 ghost use Rattle.blocks.specs.Block.{wordBytes, bytesOf, numberOf, wordAt};
-ghost use Rattle.blocks.specs.Writing.{put};
+ghost use Rattle.blocks.specs.Working.Writing.{put};
 
 // The number of the four bytes from `at` on; written out and without a loop, it is compiled to one load.
 fn half_at(bytes: &[u8], at: usize) -> u64

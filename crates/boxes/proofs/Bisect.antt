@@ -5,7 +5,7 @@ use mathlib.Core.Bool.{Bool, true, false, true≢false}
 use Prim.Native.Nat.{ℕ, zero, suc, _+_, _/_, _^_, _≤_, _<_}
 use native.Mathlib.Omega.{arith}
 use native.Mathlib.Decide.{ℕ-discrete}
-use Rattle.boxes.specs.Cuts.{bisect}
+use Rattle.boxes.specs.Working.Cuts.{bisect}
 use Rattle.boxes.proofs.Lists.{by-test}
 
 -- the test is true at m, which is from lo to below hi, and false at m + 1

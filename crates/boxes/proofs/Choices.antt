@@ -8,7 +8,8 @@ use Prim.Native.Nat.{ℕ, zero, suc, _+_, _-_, _≤_, _<_}
 use native.Mathlib.Omega.{arith}
 use native.Mathlib.Decide.{ℕ-discrete}
 use lib.ListN.{length, getD, set, List·getD-map}
-use Rattle.boxes.specs.Boxes.{Choice, Interval, _⋯_, Box, at, Proper, from, width, values, prefixed, choices, size, lows, highs, _∈_}
+use Rattle.boxes.specs.Boxes.{Choice, Interval, _⋯_, Box, at, from, width, values, prefixed, choices, size, lows, highs, _∈_}
+use Rattle.boxes.specs.Working.Cuts.{Proper}
 use Rattle.boxes.specs.Boxes.{Inside}
 use Rattle.boxes.proofs.Lists.{mem-flatMap, flatMap-mem}
 use Rattle.boxes.proofs.Places.{nonempty}

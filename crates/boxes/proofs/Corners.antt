@@ -7,8 +7,8 @@ use Prim.Native.Nat.{ℕ, zero, suc, _+_, _^_, _≤_}
 use native.Mathlib.Omega.{arith}
 use lib.Dec.{eqb}
 use borrow.Author.Tests.{eqb-true, eqb-false}
-use Rattle.boxes.specs.Boxes.{Choice, Box, at, Proper, pieces, lows, highs}
-use Rattle.boxes.specs.Cuts.{OneInput, below, above, edge, cornerPieces}
+use Rattle.boxes.specs.Boxes.{Choice, Box, at, pieces, lows, highs}
+use Rattle.boxes.specs.Working.Cuts.{Proper, OneInput, below, above, edge, cornerPieces}
 use Rattle.boxes.proofs.Lists.{by-test}
 use Rattle.boxes.proofs.Choices.{lows-inside}
 use Rattle.boxes.proofs.OneInput.{between, constant-corner, one-input-within, one-input-convex}

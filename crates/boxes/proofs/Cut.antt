@@ -12,9 +12,9 @@ use lib.Dec.{leb}
 use lib.ListN.{length, length-map, set, List·getD-eq-default}
 use lib.Seq.{set-set, set-getD, getD-set-same}
 use borrow.Author.Tests.{le-leb, lt-leb, leb-true, leb-false, not-true}
-use Rattle.boxes.specs.Boxes.{Choice, Interval, _⋯_, Box, at, Proper, from, width, values, prefixed, choices, size, keep, lows, highs}
+use Rattle.boxes.specs.Boxes.{Choice, Interval, _⋯_, Box, at, from, width, values, prefixed, choices, size, keep, lows, highs}
 use Rattle.boxes.specs.Boxes.{Inside, Within}
-use Rattle.boxes.specs.Cuts.{cut, below, above, Splits}
+use Rattle.boxes.specs.Working.Cuts.{Proper, cut, below, above, Splits}
 use Rattle.boxes.proofs.Lists.{by-test, map-set, keep-mem, mem-keep, keep-all, keep-none, keep-split, keep-map, keep-flatMap}
 use Rattle.boxes.proofs.Lists.{keep-length}
 use Rattle.boxes.proofs.Choices.{mem-choices, mem-values}

@@ -9,7 +9,7 @@ use native.Mathlib.Omega.{arith}
 use lib.Dec.{ltb, lit≤}
 use Rattle.boxes.specs.Boxes.{Choice, _⋯_, at, from, width, values, choices, best, least, greatest, every, same, low, high, fixed}
 use Rattle.boxes.specs.Boxes.{keep, classes, hull, piece, pieces}
-use Rattle.boxes.specs.Cuts.{bisect, edge, cornerPieces}
+use Rattle.boxes.specs.Working.Cuts.{bisect, edge, cornerPieces}
 use Rattle.boxes.proofs.Corners.{corner-pieces}
 
 -- the first input slowest

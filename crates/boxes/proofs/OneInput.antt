@@ -10,8 +10,8 @@ use native.Mathlib.Omega.{arith}
 use native.Mathlib.Decide.{decLe}
 use lib.Dec.{eqb}
 use borrow.Author.Tests.{eqb-true, eqb-false}
-use Rattle.boxes.specs.Boxes.{Choice, Box, at, Proper, choices, low, high, fixed, lows, highs, Inside, Within, _∈_}
-use Rattle.boxes.specs.Cuts.{Along, OneInput, Convex}
+use Rattle.boxes.specs.Boxes.{Choice, Box, at, choices, low, high, fixed, lows, highs, Inside, Within, _∈_}
+use Rattle.boxes.specs.Working.Cuts.{Proper, Along, OneInput, Convex}
 use Rattle.boxes.proofs.Lists.{by-test}
 use Rattle.boxes.proofs.Choices.{mem-choices, choices-first, lows-inside, highs-inside, inside-at}
 use Rattle.boxes.proofs.Extremes.{least-mem, greatest-mem, least-le, le-greatest, least-is, greatest-is, same-eq, eq-same}

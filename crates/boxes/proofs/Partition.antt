@@ -13,9 +13,9 @@ use lib.Dec.{eqb, ltb}
 use lib.ListN.{length, getD}
 use lib.Seq.{getD-set-other}
 use borrow.Author.Tests.{eqb-true, eqb-false, eq-eqb, lt-ltb}
-use Rattle.boxes.specs.Boxes.{Choice, Box, _⋯_, at, Proper, choices, size, keep, classes, hull, piece, pieces, lows, highs, Inside, _∈_}
+use Rattle.boxes.specs.Boxes.{Choice, Box, _⋯_, at, choices, size, keep, classes, hull, piece, pieces, lows, highs, Inside, _∈_}
 use Rattle.boxes.specs.Boxes.{Within}
-use Rattle.boxes.specs.Cuts.{OneInput, Convex, below, above, Edge}
+use Rattle.boxes.specs.Working.Cuts.{Proper, OneInput, Convex, below, above, Edge}
 use Rattle.boxes.proofs.Lists.{by-test, mem-keep}
 use Rattle.boxes.proofs.Places.{nonempty}
 use Rattle.boxes.proofs.Extremes.{least-le, le-greatest}

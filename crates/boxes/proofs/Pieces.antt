@@ -14,9 +14,9 @@ use lib.ListN.{length, set, length-set, length-map}
 use lib.Pow.{pow-pos}
 use lib.Seq.{getD-set-same, set-getD}
 use borrow.Author.Tests.{eqb-true, eqb-false, eq-eqb, ne-eqb, leb-true, leb-false, le-leb, lt-leb}
-use Rattle.boxes.specs.Boxes.{Choice, Interval, _⋯_, Box, at, Proper, choices, keep, classes, hull, piece, pieces, lows, highs, _∈_}
+use Rattle.boxes.specs.Boxes.{Choice, Interval, _⋯_, Box, at, choices, keep, classes, hull, piece, pieces, lows, highs, _∈_}
 use Rattle.boxes.specs.Boxes.{Inside}
-use Rattle.boxes.specs.Cuts.{Convex, below, above, Edge, edge}
+use Rattle.boxes.specs.Working.Cuts.{Proper, Convex, below, above, Edge, edge}
 use Rattle.boxes.proofs.Lists.{by-test, map-cong, keep-mem, keep-all, keep-none, keep-cong, keep-comm, keep-implied, keep-map}
 use Rattle.boxes.proofs.Choices.{mem-choices, lows-inside, highs-inside, choices-first, inside-at, inside-set}
 use Rattle.boxes.proofs.Extremes.{least-is, greatest-is}

@@ -7,7 +7,7 @@ use native.Mathlib.Omega.{arith}
 use lib.ListN.{length, getD, set}
 use lib.Seq.{set-getD}
 use Rattle.boxes.specs.Boxes.{Box, _⋯_, lows, highs}
-use Rattle.boxes.specs.Cuts.{boxIn, cut, below}
+use Rattle.boxes.specs.Working.Cuts.{boxIn, cut, below}
 
 pub lows-in : (ls hs : List ℕ) → length ls ≡ length hs → lows (boxIn ls hs) ≡ ls
 unfolding boxIn

@@ -32,11 +32,6 @@ Box = List Interval
 abbrev pub at : Choice → ℕ → ℕ
 at c i = getD c i 0
 
--- every low is at most its high
-abbrev pub Proper : Box → Type 0
-Proper [] = Unit {0}
-Proper (v ∷ b) = (v .low ≤ v .high) × Proper b
-
 -- the lowest and the highest choice
 abbrev pub lows : Box → Choice
 lows b = map (λ (v : Interval). v .low) b

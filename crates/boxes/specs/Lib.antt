@@ -1,5 +1,5 @@
--- What a reader must believe of boxes, and the working notions of the laws.
+-- What a reader must believe of boxes.
 --     Boxes       choices, boxes, least and greatest value, fixed values, pieces
---     Cuts        working notions: a box in two lists, values of one input, cuts, edges, pieces by cutting
+--     Working     not to be believed: what contracts and laws name beside these
 pub mod Boxes
-pub mod Cuts
+pub mod Working

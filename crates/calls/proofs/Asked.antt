@@ -1,155 +1,104 @@
--- The first no of some questions: what one more question does to it, where it stands, and what it is under another refusal. Two more numbers of the intervals in order.
+-- The first no of some questions: what one more question does to it, and where it stands. Two more numbers of the intervals in order.
 -- Assumes nothing.
 use mathlib.Core.Path.{_≡_, refl, sym, ap, _∙_}
 use mathlib.Core.Logic.{_↔_, ⊎-elim}
 use mathlib.Core.Bool.{Bool, true, false, not, _&&_}
-use mathlib.Core.List.{List, [], _∷_, _++_, map, List·Memᴰ·not-nil, List·Memᴰ·cases-cons, List·Memᴰ·head as here, List·Memᴰ·tail as there}
-use mathlib.Core.Option.{Option, none, some}
+use mathlib.Core.List.{List, [], _∷_, _++_, List·Memᴰ·not-nil, List·Memᴰ·cases-cons, List·Memᴰ·head as here, List·Memᴰ·tail as there}
+use mathlib.Core.Option.{none, some}
 use Prim.Native.Nat.{ℕ, suc, _+_, _-_, _<_, _≤_}
 use native.Mathlib.Numerals.{add-one}
 use native.Mathlib.Omega.{arith}
-use borrow.Author.Tests.{lt-leb, le-leb, not-true, not-false}
+use borrow.Author.Tests.{lt-leb, le-leb, not-false}
 use lib.Dec.{leb}
 use lib.ListN.{length, getD, drop, length-drop}
 use lib.Seq.{drop-cons}
-use Rattle.boxes.specs.Boxes.{_∈_}
 use Rattle.boxes.proofs.Lists.{by-test}
-use Rattle.calls.specs.Call.{boxOf, inOrder, firstNo}
+use Rattle.listing.specs.First.{first}
+use Rattle.listing.proofs.First.{stops, goes, passes, first-none}
+use Rattle.blocks.specs.Record.{recordBytes}
+use Rattle.calls.specs.Questions.{Question, _otherwise_, AllYes, codeFits, intervalsFit, inOrder, limitFits, tableFits, memoryFits, reportFits, firstFits}
+use Rattle.calls.specs.Call.{Call, inputsOf, boxOf, questions, refusalOf}
 use Rattle.calls.specs.Refuses.{FirstNo}
+use Rattle.calls.specs.declared.Refusal.{Refusal}
 
--- a yes, a no, and no further question; the code's answer t is the definition's
-module _ {A : Type 0} (answer : A → Bool) where
-  pub yes-on : (r : A) (rs : List A) → answer r ≡ true → firstNo answer (r ∷ rs) ≡ firstNo answer rs
-  unfolding firstNo
-  yes-on r rs e = rw e
+-- a yes and a no; the code's answer t is the definition's
+pub asked-yes : (r : Refusal) (qs : List Question) {t u : Bool} → t ≡ u → not t ≡ false → first qs ≡ first ((u otherwise r) ∷ qs)
+asked-yes r qs {u = u} e y = goes (u otherwise r) qs (ap not (sym e) ∙ y)
 
-  pub goes : (r : A) (rs : List A) {t : Bool} → t ≡ answer r → not t ≡ false → firstNo answer rs ≡ firstNo answer (r ∷ rs)
-  goes r rs {t} e y = sym (yes-on r rs (sym e ∙ not-false t y))
+pub asked-no : (r : Refusal) (qs : List Question) {t u : Bool} → t ≡ u → not t ≡ true → some r ≡ first ((u otherwise r) ∷ qs)
+asked-no r qs {u = u} e n = stops (u otherwise r) qs (ap not (sym e) ∙ n)
 
-  pub stops : (r : A) (rs : List A) {t : Bool} → t ≡ answer r → not t ≡ true → some r ≡ firstNo answer (r ∷ rs)
-  unfolding firstNo
-  stops r rs {t} e n = rw (sym e ∙ not-true t n)
+-- a test that holds
+pub yes-on : (r : Refusal) (qs : List Question) {u : Bool} → u ≡ true → first qs ≡ first ((u otherwise r) ∷ qs)
+yes-on r qs {u = u} e = goes (u otherwise r) qs (ap not e)
 
-  pub passes : none ≡ firstNo answer []
-  unfolding firstNo
-  passes = refl
+-- no first no: each question was answered yes
+pub passed : (u : Bool) (r : Refusal) (qs : List Question) → first ((u otherwise r) ∷ qs) ≡ none → (u ≡ true) × (first qs ≡ none)
+passed u r qs e = let (y, f) = first-none (u otherwise r) qs e in (not-false u y, f)
 
-  -- no first no: each question was answered yes
-  pub passed : (r : A) (rs : List A) → firstNo answer (r ∷ rs) ≡ none → (answer r ≡ true) × (firstNo answer rs ≡ none)
-  unfolding firstNo
-  passed r rs e =
-      by-test (answer r)
-      (λ y. (y, rw y at e))
-      (λ n. let f : some r ≡ none = rw n at e in let z : _≡_ {A = ℕ} 0 1 = cc in absurd (omega arith))
+-- so with a call that is accepted
+pub record CallPassed (m : List ℕ) (words : ℕ) (c : Call) : Type 0 where
+  pub code : codeFits (length (c .code)) ≡ true
+  pub intervals : intervalsFit (length (c .intervals)) ≡ true
+  pub order : inOrder (boxOf (c .intervals)) ≡ true
+  pub limit : limitFits (c .limit) ≡ true
+  pub table : tableFits words ≡ true
+  pub memory : memoryFits (length m) ≡ true
+  pub report : reportFits (recordBytes (inputsOf c)) (length (c .report)) ≡ true
+  pub first : firstFits (c .first) ≡ true
 
-  no-first : {r : A} → none ≡ some r → ⊥
-  no-first e = let z : _≡_ {A = ℕ} 0 1 = cc in absurd (omega arith)
+pub call-passed : (memory : List ℕ) (words : ℕ) (c : Call) → refusalOf memory words c ≡ none → CallPassed memory words c
+unfolding questions
+call-passed memory words c e =
+    let (q1, e1) = passed _ _ _ e in
+    let (q2, e2) = passed _ _ _ e1 in
+    let (q3, e3) = passed _ _ _ e2 in
+    let (q4, e4) = passed _ _ _ e3 in
+    let (q5, e5) = passed _ _ _ e4 in
+    let (q6, e6) = passed _ _ _ e5 in
+    let (q7, e7) = passed _ _ _ e6 in
+    let (q8, _) = passed _ _ _ e7 in
+    record { code = q1; intervals = q2; order = q3; limit = q4; table = q5; memory = q6; report = q7; first = q8 }
 
-  -- it is none exactly if every question is answered yes
-  pub all-yes : (rs : List A) → (firstNo answer rs ≡ none) ↔ ((q : A) → q ∈ rs → answer q ≡ true)
-  all-yes rs = (only rs, whenever rs)
-    where
-      only : (rs : List A) → firstNo answer rs ≡ none → (q : A) → q ∈ rs → answer q ≡ true
-      only [] e q m = absurd (List·Memᴰ·not-nil m)
-      only (r ∷ rs) e q m =
-          let (y, f) = passed r rs e in
-          ⊎-elim (λ z. rw z y) (λ n. only rs f q n) (List·Memᴰ·cases-cons m)
+no-first : {r : Refusal} → none ≡ some r → ⊥
+no-first e = let z : _≡_ {A = ℕ} 0 1 = cc in absurd (omega arith)
 
-      whenever : (rs : List A) → ((q : A) → q ∈ rs → answer q ≡ true) → firstNo answer rs ≡ none
-      whenever [] h = sym passes
-      whenever (r ∷ rs) h = yes-on r rs (h r (here refl)) ∙ whenever rs (λ q m. h q (there m))
+-- the first no gives a refusal exactly if it stands so
+pub first-no : (qs : List Question) (r : Refusal) → (first qs ≡ some r) ↔ FirstNo qs r
+first-no qs r = (placed qs, λ f. rw (f .place) (stopped (f .before) (f .question) (f .after) (f .yes-before) (f .no-here) (f .refusal)))
+  where
+    placed : (qs : List Question) → first qs ≡ some r → FirstNo qs r
+    placed [] e = absurd (no-first (passes ∙ e))
+    placed (q ∷ qs) e =
+        by-test (q .applies)
+        (λ n.
+        let z : q .gives ≡ r = cc (stops q qs n) in
+        record {
+          before = [];
+          question = q;
+          after = qs;
+          place = refl;
+          yes-before = λ p m. absurd (List·Memᴰ·not-nil m);
+          no-here = n;
+          refusal = z;
+        })
+        (λ y.
+        let f = placed qs (goes q qs y ∙ e) in
+        record {
+          before = q ∷ f .before;
+          question = f .question;
+          after = f .after;
+          place = ap (λ (l : List Question). q ∷ l) (f .place);
+          yes-before = λ p m. ⊎-elim (λ z. rw z y) (λ n. f .yes-before p n) (List·Memᴰ·cases-cons m);
+          no-here = f .no-here;
+          refusal = f .refusal;
+        })
 
-  -- and some question exactly if that is the first with the answer no
-  pub first-no : (rs : List A) (r : A) → (firstNo answer rs ≡ some r) ↔ FirstNo answer rs r
-  first-no rs r = (placed rs, λ f. rw (f .place) (stopped (f .before) (f .after) (f .yes-before) (f .no-here)))
-    where
-      placed : (rs : List A) → firstNo answer rs ≡ some r → FirstNo answer rs r
-      placed [] e = absurd (no-first (passes ∙ e))
-      placed (q ∷ rs) e =
-          by-test (answer q)
-          (λ y.
-          let f = placed rs (sym (yes-on q rs y) ∙ e) in
-          record {
-            before = q ∷ f .before;
-            after = f .after;
-            place = ap (λ (l : List A). q ∷ l) (f .place);
-            yes-before = λ p m. ⊎-elim (λ z. rw z y) (λ n. f .yes-before p n) (List·Memᴰ·cases-cons m);
-            no-here = f .no-here;
-          })
-          (λ n.
-          let z : q ≡ r = cc (stops q rs refl (rw n)) in
-          record {
-            before = [];
-            after = rs;
-            place = ap (λ (x : A). x ∷ rs) z;
-            yes-before = λ p m. absurd (List·Memᴰ·not-nil m);
-            no-here = rw z at n;
-          })
-
-      stopped : (before after : List A) → ((q : A) → q ∈ before → answer q ≡ true) → answer r ≡ false
-          → firstNo answer (before ++ r ∷ after) ≡ some r
-      stopped [] after h n = sym (stops r after refl (rw n))
-      stopped (q ∷ before) after h n =
-          yes-on q (before ++ r ∷ after) (h q (here refl)) ∙ stopped before after (λ p m. h p (there m)) n
-
-  -- further questions come after
-  pub first-stays : {r : A} (rs qs : List A) → firstNo answer rs ≡ some r → firstNo answer (rs ++ qs) ≡ some r
-  first-stays [] qs e = absurd (no-first (passes ∙ e))
-  first-stays (q ∷ rs) qs e =
-      by-test (answer q)
-      (λ y. yes-on q (rs ++ qs) y ∙ first-stays rs qs (sym (yes-on q rs y) ∙ e))
-      (λ n. sym (stops q (rs ++ qs) refl (rw n)) ∙ stops q rs refl (rw n) ∙ e)
-
-  pub first-goes : (rs qs : List A) → firstNo answer rs ≡ none → firstNo answer (rs ++ qs) ≡ firstNo answer qs
-  first-goes [] qs e = refl
-  first-goes (q ∷ rs) qs e = let (y, f) = passed q rs e in yes-on q (rs ++ qs) y ∙ first-goes rs qs f
-
--- answers that agree while they are yes have one first no
-pub first-same : {A : Type 0} (f g : A → Bool) (r : A) (rs : List A) → f r ≡ g r → (g r ≡ true → firstNo f rs ≡ firstNo g rs)
-    → firstNo f (r ∷ rs) ≡ firstNo g (r ∷ rs)
-unfolding firstNo
-first-same f g r rs e h = by-test (g r) (λ y. rw (e, y) (h y)) (λ n. rw (e, n))
-
--- questions under another refusal have the same first no
-module _ {R Q : Type 0} (under : R → Q) (answer : Q → Bool) where
-  under-no : (rs : List R) {r : R} → firstNo (λ q. answer (under q)) rs ≡ some r → firstNo answer (map under rs) ≡ some (under r)
-  unfolding firstNo
-  under-no [] e = let z : _≡_ {A = ℕ} 0 1 = cc in absurd (omega arith)
-  under-no (q ∷ rs) {r} e =
-      by-test (answer (under q))
-      (λ y. rw y (under-no rs (rw y at e)))
-      (λ n. let f = rw n at e in let z : q ≡ r = cc in rw (n, z))
-
-  pub under-yes : (rs : List R) → firstNo (λ q. answer (under q)) rs ≡ none → firstNo answer (map under rs) ≡ none
-  unfolding firstNo
-  under-yes [] e = refl
-  under-yes (q ∷ rs) e =
-      by-test (answer (under q))
-      (λ y. rw y (under-yes rs (rw y at e)))
-      (λ n. let f = rw n at e in let z : _≡_ {A = ℕ} 0 1 = cc in absurd (omega arith))
-
-  -- with one more question behind them, which is another
-  module _ (rs : List R) (last : Q) (r : R) (one : (q : R) → under q ≡ under r → q ≡ r) (other : last ≡ under r → ⊥) where
-    no-more : firstNo answer (last ∷ []) ≡ some (under r) → ⊥
-    unfolding firstNo
-    no-more e =
-        by-test (answer last)
-        (λ y. let f = rw y at e in let z : _≡_ {A = ℕ} 0 1 = cc in absurd (omega arith))
-        (λ n. let f = rw n at e in let z : last ≡ under r = cc in other z)
-
-    under-first : (o : Option R) → firstNo (λ q. answer (under q)) rs ≡ o → firstNo answer (map under rs ++ last ∷ []) ≡ some (under r) → o ≡ some r
-    under-first (some q) d e =
-        let f = first-stays answer (map under rs) (last ∷ []) (under-no rs d) in
-        let g = sym f ∙ e in
-        let z : under q ≡ under r = cc in
-        ap (λ (x : R). some x) (one q z)
-    under-first none d e = absurd (no-more (sym (first-goes answer (map under rs) (last ∷ []) (under-yes rs d)) ∙ e))
-
-    pub under-refused : (firstNo answer (map under rs ++ last ∷ []) ≡ some (under r)) ↔ (firstNo (λ q. answer (under q)) rs ≡ some r)
-    under-refused = (
-      under-first (firstNo (λ q. answer (under q)) rs) refl,
-      λ e. first-stays answer (map under rs) (last ∷ []) (under-no rs e),
-    )
+    stopped : (before : List Question) (q : Question) (after : List Question) → AllYes before → q .applies ≡ true → q .gives ≡ r
+        → first (before ++ q ∷ after) ≡ some r
+    stopped [] q after h n e = sym (stops q after n) ∙ ap (λ (x : Refusal). some x) e
+    stopped (p ∷ before) q after h n e =
+        sym (goes p (before ++ q ∷ after) (h p (here refl))) ∙ stopped before q after (λ x m. h x (there m)) n e
 
 short : (v : List ℕ) → length v < 2 → inOrder (boxOf v) ≡ true
 unfolding inOrder boxOf

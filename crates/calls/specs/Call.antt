@@ -1,17 +1,18 @@
 -- One call: what is lent, the questions, and what the call leaves.
-use Prim.Native.Nat.{ℕ, _+_, _*_, _/_, _%_, _^_, _<_}
-use mathlib.Core.Bool.{Bool, true, false, cond, _&&_}
+use Prim.Native.Nat.{ℕ, _+_, _*_, _/_, _^_, _<_}
+use mathlib.Core.Bool.{Bool, true, false}
 use mathlib.Core.List.{List, [], _∷_, _++_}
 use mathlib.Core.Option.{Option, none, some}
-use lib.Dec.{ltb, leb, eqb}
+use lib.Dec.{ltb}
 use lib.ListN.{length, getD, take, drop, replicate}
 use Rattle.boxes.specs.Boxes.{Box, _⋯_}
+use Rattle.listing.specs.First.{first}
 use Rattle.listing.specs.Group.{Job}
 use Rattle.listing.specs.Listing.{Path, listing}
-use Rattle.riscu.specs.Limits.{codeWords, memoryWords}
-use Rattle.blocks.specs.Record.{mostInputs, recordBytes, records}
+use Rattle.blocks.specs.Record.{recordBytes, records}
 use Rattle.blocks.specs.Report.{recordsIn}
-use Rattle.calls.specs.Limits.{mostSteps, entryWords, firstEnd}
+use Rattle.calls.specs.Limits.{entryWords}
+use Rattle.calls.specs.Questions.{Question, _otherwise_, codeFits, intervalsFit, inOrder, limitFits, tableFits, memoryFits, reportFits, firstFits}
 use Rattle.calls.specs.declared.Refusal.{Refusal}
 use Rattle.calls.specs.declared.Refusal.the-variants.{Code, Inputs, Order, Limit, Table, Memory, Report, First}
 use Rattle.calls.specs.declared.Answer.{Answer}
@@ -46,17 +47,7 @@ pub record Typed (c : Call) : Type 0 where
   pub bytes : length (c .report) < 2 ^ 64
   pub first : c .first < 2 ^ 64
 
--- The answer's numbers: which question refused, how many paths are written, whether a further path exists.
-
-abbrev pub number : Refusal → ℕ
-number Code = 1
-number Inputs = 2
-number Order = 3
-number Limit = 4
-number Table = 5
-number Memory = 6
-number Report = 7
-number First = 8
+-- What an answer says: how many paths are written, whether a further path exists, whether the call was accepted.
 
 unfoldable pub written : Answer → ℕ
 written (Refused r) = 0
@@ -76,32 +67,22 @@ boxOf [] = []
 boxOf (l ∷ []) = []
 boxOf (l ∷ (h ∷ v)) = (l ⋯ h) ∷ boxOf v
 
-unfoldable pub inOrder : Box → Bool
-inOrder [] = true
-inOrder (v ∷ b) = leb (v .low) (v .high) && inOrder b
-
--- the questions, each under the refusal that answers its no; `words` is the number of words of the table
-unfoldable pub asks : List ℕ → ℕ → Call → Refusal → Bool
-asks memory words c Code = leb 1 (length (c .code)) && leb (length (c .code)) codeWords
-asks memory words c Inputs = eqb (length (c .intervals) % 2) 0 && leb (length (c .intervals)) (2 * mostInputs)
-asks memory words c Order = inOrder (boxOf (c .intervals))
-asks memory words c Limit = leb 1 (c .limit) && leb (c .limit) mostSteps
-asks memory words c Table = leb entryWords words
-asks memory words c Memory = eqb (length memory) memoryWords
-asks memory words c Report = eqb (length (c .report) % recordBytes (inputsOf c)) 0 && leb 1 (length (c .report))
-asks memory words c First = ltb (c .first) firstEnd
-
-abbrev pub questions : List Refusal
-questions = Code ∷ Inputs ∷ Order ∷ Limit ∷ Table ∷ Memory ∷ Report ∷ First ∷ []
-
--- the first of some questions that is answered no
-unfoldable pub firstNo : {A : Type 0} → (A → Bool) → List A → Option A
-firstNo answer [] = none
-firstNo answer (r ∷ rs) = cond (answer r) (firstNo answer rs) (some r)
+-- the questions, in their order; `words` is the number of words of the table
+unfoldable pub questions : List ℕ → ℕ → Call → List Question
+questions memory words c =
+    (codeFits (length (c .code)) otherwise Code)
+    ∷ (intervalsFit (length (c .intervals)) otherwise Inputs)
+    ∷ (inOrder (boxOf (c .intervals)) otherwise Order)
+    ∷ (limitFits (c .limit) otherwise Limit)
+    ∷ (tableFits words otherwise Table)
+    ∷ (memoryFits (length memory) otherwise Memory)
+    ∷ (reportFits (recordBytes (inputsOf c)) (length (c .report)) otherwise Report)
+    ∷ (firstFits (c .first) otherwise First)
+    ∷ []
 
 -- the first no decides
 abbrev pub refusalOf : List ℕ → ℕ → Call → Option Refusal
-refusalOf memory words c = firstNo (asks memory words c) questions
+refusalOf memory words c = first (questions memory words c)
 
 -- what an accepted call feeds the plain listing
 unfoldable pub jobOf : List ℕ → ℕ → Call → Job

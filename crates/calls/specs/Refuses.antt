@@ -2,24 +2,31 @@
 use mathlib.Core.Path.{_≡_}
 use mathlib.Core.Logic.{_↔_}
 use Prim.Native.Nat.{ℕ}
-use mathlib.Core.Bool.{Bool, true, false}
+use mathlib.Core.Bool.{true, false}
 use mathlib.Core.List.{List, [], _∷_, _++_}
 use lib.ListN.{length}
-use Rattle.boxes.specs.Boxes.{_∈_}
 use Rattle.listing.specs.Group.{viewOf}
 use Rattle.listing.specs.Listing.{moves, enough}
-use Rattle.calls.specs.Call.{Call, Left, asks, questions, written, more, isPage, jobOf}
+use Rattle.calls.specs.Questions.{number, Question, No, AllYes}
+use Rattle.calls.specs.Call.{Call, Left, questions, written, more, isPage, jobOf}
 use Rattle.calls.specs.Engine.{Engine}
 use Rattle.calls.specs.declared.Refusal.{Refusal}
 use Rattle.calls.specs.declared.Answer.the-variants.{Refused}
 
--- of some questions, r is the first with the answer no
-pub record FirstNo {A : Type 0} (answer : A → Bool) (asked : List A) (r : A) : Type 0 where
-  pub before : List A
-  pub after : List A
-  pub place : asked ≡ before ++ r ∷ after
-  pub yes-before : (q : A) → q ∈ before → answer q ≡ true
-  pub no-here : answer r ≡ false
+-- of some questions, the first with the answer no gives refusal r
+pub record FirstNo (asked : List Question) (r : Refusal) : Type 0 where
+  pub before : List Question
+  pub question : Question
+  pub after : List Question
+  pub place : asked ≡ before ++ question ∷ after
+  pub yes-before : AllYes before
+  pub no-here : No question
+  pub refusal : question .gives ≡ r
+
+-- a number that a caller in C sees: 0 exactly if every question has the answer yes, and a refusal's exactly if the first no gives it
+pub record TellsNo (asked : List Question) (n : ℕ) : Type 0 where
+  pub accepted : (n ≡ 0) ↔ AllYes asked
+  pub refused : (r : Refusal) → (n ≡ number r) ↔ FirstNo asked r
 
 -- 0 paths and no further path, and nothing lent is changed
 pub record Unchanged (memory table : List ℕ) (c : Call) (l : Left) : Type 0 where
@@ -30,10 +37,10 @@ pub record Unchanged (memory table : List ℕ) (c : Call) (l : Left) : Type 0 wh
   pub memory-kept : l .memory ≡ memory
 
 pub record Refuses (memory table : List ℕ) (c : Call) (l : Left) : Type 0 where
-  -- the first no decides: a call is refused by a question exactly if that is the first no
-  pub refused : (r : Refusal) → (l .reply .answer ≡ Refused r) ↔ FirstNo (asks memory (length table) c) questions r
+  -- the first no decides: a call is refused exactly if the first no gives that refusal
+  pub refused : (r : Refusal) → (l .reply .answer ≡ Refused r) ↔ FirstNo (questions memory (length table) c) r
   -- and accepted exactly if every question has the answer yes
-  pub accepted : (isPage (l .reply .answer) ≡ true) ↔ ((q : Refusal) → asks memory (length table) c q ≡ true)
+  pub accepted : (isPage (l .reply .answer) ≡ true) ↔ AllYes (questions memory (length table) c)
   -- a refusal reports zero paths and changes nothing lent
   pub unchanged : (r : Refusal) → l .reply .answer ≡ Refused r → Unchanged memory table c l
   -- the exploration of an accepted call finishes: in the end no group waits

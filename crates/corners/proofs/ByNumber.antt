@@ -10,11 +10,12 @@ use native.Mathlib.Nat.{le-div-iff-mul-le, div-lt-iff-lt-mul, div-add-mod, suc-m
 use native.Mathlib.Omega.{arith}
 use lib.Dec.{eqb, ltb}
 use borrow.Author.Tests.{ne-eqb}
-use Rattle.boxes.specs.Boxes.{Choice, Proper, Inside, choices, low, high}
+use Rattle.boxes.specs.Boxes.{Choice, Inside, choices, low, high}
+use Rattle.boxes.specs.Working.Cuts.{Proper}
 use Rattle.boxes.proofs.Lists.{by-test, map-cong}
 use Rattle.boxes.proofs.Choices.{mem-choices}
 use Rattle.boxes.proofs.OneInput.{low-carried, high-carried}
-use Rattle.riscu.specs.Word.{size, word}
+use Rattle.words.specs.Word.{size, word}
 use Rattle.riscu.specs.Machine.{State, reg, operate}
 use Rattle.riscu.specs.declared.Operation.the-variants.{Mul, Divu}
 use Rattle.riscu.specs.declared.Instruction.the-variants.{Register}
@@ -23,7 +24,7 @@ use Rattle.listing.specs.Ending.{first, openAt, bothOpen, farApart, operationPo
 use Rattle.listing.specs.declared.Operand.the-variants.{InRegister}
 use Rattle.listing.specs.declared.Reason.the-variants.{Quotients}
 use Rattle.listing.specs.declared.End.the-variants.{NotFollowed}
-use Rattle.corners.specs.Smooth.{Same}
+use Rattle.corners.specs.Working.Smooth.{Same}
 use Rattle.corners.proofs.Operations.{ltb-same, div-rises, mod-rises}
 use Rattle.corners.proofs.Unforked.{Unforked, one-class}
 

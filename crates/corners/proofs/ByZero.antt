@@ -8,11 +8,12 @@ use Prim.Native.Nat.{ℕ, _+_}
 use native.Mathlib.Omega.{arith}
 use lib.Dec.{eqb}
 use borrow.Author.Tests.{eq-eqb, le-ltb}
-use Rattle.boxes.specs.Boxes.{Choice, Proper, Inside, choices, fixed, low, high, lows}
+use Rattle.boxes.specs.Boxes.{Choice, Inside, choices, fixed, low, high, lows}
+use Rattle.boxes.specs.Working.Cuts.{Proper}
 use Rattle.boxes.proofs.Lists.{by-test, map-cong}
 use Rattle.boxes.proofs.Choices.{mem-choices, lows-inside}
 use Rattle.boxes.proofs.OneInput.{low-is, high-is, constant-fixed}
-use Rattle.riscu.specs.Word.{maxWord}
+use Rattle.words.specs.Word.{maxWord}
 use Rattle.riscu.specs.Machine.{State, reg, operate}
 use Rattle.riscu.specs.declared.Operation.{Operation}
 use Rattle.riscu.specs.declared.Operation.the-variants.{Add, Sub, Mul, Divu, Remu, Sltu}
@@ -22,7 +23,7 @@ use Rattle.listing.specs.Ending.{first, openAt, valueAt, farApart, operationPoi
 use Rattle.listing.specs.declared.Operand.the-variants.{InRegister}
 use Rattle.listing.specs.declared.Reason.the-variants.{DivisorOpen}
 use Rattle.listing.specs.declared.End.the-variants.{NotFollowed}
-use Rattle.corners.specs.Smooth.{Same, EitherOpen}
+use Rattle.corners.specs.Working.Smooth.{Same, EitherOpen}
 use Rattle.corners.proofs.Followed.{lowest-at}
 use Rattle.corners.proofs.Unforked.{Unforked, one-class}
 use Rattle.corners.proofs.ByNumber.{divu-passes, divu-unforked}

@@ -8,10 +8,10 @@ use native.Mathlib.Omega.{arith}
 use lib.Dec.{ltb, leb}
 use lib.ListN.{length, getD, replicate, length-replicate}
 use borrow.Author.Tests.{leb-true, ltb-true}
-use Rattle.boxes.specs.Boxes.{Box, Interval, _⋯_, Proper, highs, from, every, _∈_}
-use Rattle.boxes.specs.Cuts.{bisect, edge, cornerPieces}
+use Rattle.boxes.specs.Boxes.{Box, Interval, _⋯_, highs, from, every, _∈_}
+use Rattle.boxes.specs.Working.Cuts.{Proper, bisect, edge, cornerPieces}
 use Rattle.boxes.proofs.Lists.{map-eq}
-use Rattle.riscu.specs.Word.{size, signed, widen}
+use Rattle.words.specs.Word.{size, signed, widen}
 use Rattle.riscu.specs.Decode.{rows, search, decodeOf}
 use Rattle.riscu.specs.Machine.{start, operate, readNext, step, fetch, stepDecoded, run}
 use Rattle.riscu.proofs.Whole.{words-zero}
@@ -21,9 +21,9 @@ use Rattle.listing.specs.Ending.{writes, needs, endAt, endBy}
 use Rattle.listing.specs.Listing.{Path, pathOf, splitBy, moveBy, moveFrom, moves, begin, listing}
 use Rattle.listing.specs.Numbers.{kindNumber, reasonWord}
 use Rattle.corners.proofs.CornerListing.{listing-is}
-use Rattle.riscu.specs.Whole.{AllWords}
-use Rattle.corners.specs.Good.{Sound, cornersOf}
-use Rattle.corners.specs.Tags.{tagStep, tagDecoded, tagsAt, tagBy, classTag}
+use Rattle.riscu.specs.Working.Whole.{AllWords}
+use Rattle.corners.specs.Working.Good.{Sound, cornersOf}
+use Rattle.corners.specs.Working.Tags.{tagStep, tagDecoded, tagsAt, tagBy, classTag}
 
 -- what a case says of a path: kind, pc, steps, box, register 10 (for kind 1 the exit value), and the reason of kind 8
 pub record Line : Type 0 where

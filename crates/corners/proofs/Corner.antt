@@ -11,20 +11,19 @@ use native.Mathlib.Omega.{arith}
 use lib.Dec.{ltb}
 use lib.IntN.{ℤ}
 use lib.ListN.{getD}
-use Rattle.boxes.specs.Boxes.{Choice, Proper, Inside}
-use Rattle.boxes.specs.Cuts.{OneInput}
-use Rattle.boxes.proofs.Lists.{by-test}
+use Rattle.boxes.specs.Boxes.{Choice, Inside}
+use Rattle.boxes.specs.Working.Cuts.{Proper, OneInput}
 use Rattle.boxes.proofs.OneInput.{fixed-corner, low-corner, high-corner, one-input-constant}
 use Rattle.boxes.proofs.Corners.{corner-pieces}
 use Rattle.riscu.specs.Machine.{State, reg, offset, fetch}
 use Rattle.riscu.specs.declared.Operation.{Operation}
 use Rattle.riscu.specs.declared.Operation.the-variants.{Add, Sub, Mul, Divu, Remu, Sltu}
 use Rattle.riscu.specs.declared.Instruction.{Instruction}
-use Rattle.riscu.specs.declared.Instruction.the-variants.{Lui, Addi, Register, Ld, Sd, Beq, Jal, Jalr, Ecall}
+use Rattle.riscu.specs.declared.Instruction.the-variants.{Lui, Immediate, Register, Ld, Sd, Branch, Jal, Jalr, Ecall}
 use Rattle.riscu.specs.declared.Decoded.{Decoded}
 use Rattle.riscu.specs.declared.Decoded.the-variants.{Row, NoRow}
 use Rattle.listing.specs.Group.{Job, Group, after, sortOf, sortingOf, operand, classOf, View, viewOf}
-use Rattle.listing.specs.Ending.{Point, first, badAddress, operandOpen, bothOpen, twoOpen, farApart}
+use Rattle.listing.specs.Ending.{Point, _⇒_, first, badAddress, operandOpen, bothOpen, twoOpen, farApart}
 use Rattle.listing.specs.Ending.{operationPoints, operandPoints, addressPoints, points, needs, endAt, endBy, endOf}
 use Rattle.listing.specs.declared.Operand.{Operand}
 use Rattle.listing.specs.declared.Operand.the-variants.{InRegister, Constant}
@@ -35,12 +34,13 @@ use Rattle.listing.specs.declared.End.the-variants.{TraceFull}
 use Rattle.corners.proofs.Tame.{sort-one-input}
 use Rattle.corners.proofs.Uniform.{WordIn, WordsIn, sorting-words, operand-one, operand-word, class-uniform}
 use Rattle.corners.proofs.Uniform.{whole-after, uniform-after}
-use Rattle.corners.proofs.Followed.{otherwise, first-append, closed, operand-closed, not-both, points-followed}
-use Rattle.riscu.specs.Whole.{Whole}
-use Rattle.corners.specs.Smooth.{EitherOpen, Same, OneSame, Settled}
-use Rattle.corners.specs.Good.{Good, inputOf, cornersOf}
-use Rattle.corners.specs.Tags.{tagsAt}
-use Rattle.corners.specs.Uniform.{Uniform}
+use Rattle.listing.proofs.First.{otherwise, first-append, first-same}
+use Rattle.corners.proofs.Followed.{closed, operand-closed, not-both, points-followed}
+use Rattle.riscu.specs.Working.Whole.{Whole}
+use Rattle.corners.specs.Working.Smooth.{EitherOpen, Same, OneSame, Settled}
+use Rattle.corners.specs.Working.Good.{Good, inputOf, cornersOf}
+use Rattle.corners.specs.Working.Tags.{tagsAt}
+use Rattle.corners.specs.Working.Uniform.{Uniform}
 
 -- Two lists of points come to the same: test by test, up to the first that applies.
 record Agree (ps qs : List Point) : Type 0 where
@@ -49,10 +49,8 @@ record Agree (ps qs : List Point) : Type 0 where
 done : {ps : List Point} → Agree ps ps
 done = record { agrees = refl }
 
-then : {x : End} {t u : Bool} {ps qs : List Point} → t ≡ u → (t ≡ false → Agree ps qs)
-    → Agree (record { applies = t; end = x } ∷ ps) (record { applies = u; end = x } ∷ qs)
-unfolding first
-then {t} e h = record { agrees = by-test t (λ d. rw (← e, d)) (λ d. rw (← e, d) (h d .agrees)) }
+then : {x : End} {t u : Bool} {ps qs : List Point} → t ≡ u → (t ≡ false → Agree ps qs) → Agree ((t ⇒ x) ∷ ps) ((u ⇒ x) ∷ qs)
+then {x} {t} {u} {ps} {qs} e h = record { agrees = first-same x t ps qs e (λ n. h n .agrees) }
 
 append-agrees : (ps qs : List Point) {rs ts : List Point} → Agree ps qs → (first ps ≡ none → Agree rs ts) → Agree (ps ++ rs) (qs ++ ts)
 unfolding otherwise
@@ -145,11 +143,11 @@ module _ (j : Job) (g : Group) (good : Good j g) where
   address-agrees : (i : Instruction) → Agree (addressPoints (viewOf j g) i) (addressPoints (cornersOf j g) i)
   unfolding addressPoints
   address-agrees (Lui rd imm) = done
-  address-agrees (Addi rd rs1 imm) = done
+  address-agrees (Immediate op rd rs1 imm) = done
   address-agrees (Register op rd rs1 rs2) = done
   address-agrees (Ld rd rs1 imm) = access-agrees rs1 imm
   address-agrees (Sd rs1 rs2 imm) = access-agrees rs1 imm
-  address-agrees (Beq rs1 rs2 imm) = done
+  address-agrees (Branch on rs1 rs2 imm) = done
   address-agrees (Jal rd imm) = done
   address-agrees (Jalr rd rs1 imm) = then (openAt rs1) (λ n. done)
   address-agrees Ecall =
@@ -178,7 +176,7 @@ module _ (j : Job) (g : Group) (good : Good j g) where
   unfolding endAt needs
   at-agrees NoRow = refl
   at-agrees (Row i) =
-      let full : View → List Point = λ v. record { applies = ltb (j .entries - g .used) (needs g v i); end = TraceFull } ∷ [] in
+      let full : View → List Point = λ v. (ltb (j .entries - g .used) (needs g v i) ⇒ TraceFull) ∷ [] in
       append-agrees (points (viewOf j g) i) (points (cornersOf j g) i) {rs = full (viewOf j g)} {ts = full (cornersOf j g)} (points-agree i)
       (λ n. then (cc (pieces-agree i (points-followed j g i n .0))) (λ _. done)) .agrees
 

@@ -16,7 +16,7 @@ use Rattle.listing.specs.declared.End.{End}
 use Rattle.corners.proofs.Corner.{good-uniform, lowest-agrees, highest-agrees, pieces-agree, end-agrees}
 use Rattle.corners.proofs.Enough.{none-waits}
 use Rattle.corners.proofs.Moves.{Continues, continues, followed, waiting-good}
-use Rattle.corners.specs.Good.{Sound, Good, cornersOf}
+use Rattle.corners.specs.Working.Good.{Sound, Good, cornersOf}
 
 module _ (j : Job) (g : Group) (good : Good j g) where
   pub path-agrees : (e : End) → pathOf g (viewOf j g) e ≡ pathOf g (cornersOf j g) e

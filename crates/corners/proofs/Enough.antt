@@ -16,7 +16,7 @@ use Rattle.listing.specs.Ending.{needs, endOf}
 use Rattle.listing.specs.Listing.{Path, later, pathOf, splitBy, moveBy, moveFrom, moves, begin, enough, listing}
 use Rattle.listing.specs.declared.End.{End}
 use Rattle.corners.proofs.Moves.{Continues, continues, split-mem, partition, moves-each, waiting-good}
-use Rattle.corners.specs.Good.{Sound, Good, weight}
+use Rattle.corners.specs.Working.Good.{Sound, Good, weight}
 
 weight-append : (j : Job) (gs hs : List Group) → weight j (gs ++ hs) ≡ weight j gs + weight j hs
 unfolding weight

@@ -3,31 +3,31 @@
 use mathlib.Core.Path.{_≡_, refl, sym, ap, _∙_}
 use mathlib.Core.Logic.{_⊎_, inl, inr, ⊎-elim}
 use mathlib.Core.Bool.{Bool, true, false, not, _&&_, _||_, true≢false, and-eq-true-iff}
-use mathlib.Core.List.{List, [], _∷_, _++_}
-use mathlib.Core.Option.{Option, none, some}
+use mathlib.Core.List.{[], _∷_}
+use mathlib.Core.Option.{none}
 use Prim.Native.Nat.{ℕ, _%_}
 use native.Mathlib.Omega.{arith}
 use lib.Dec.{eqb, ltb}
 use lib.IntN.{ℤ}
 use borrow.Author.Tests.{eqb-true, ltb-false, not-false}
 use Rattle.boxes.specs.Boxes.{Choice, Inside}
-use Rattle.boxes.proofs.Lists.{by-test}
 use Rattle.boxes.proofs.OneInput.{low-is, fixed-constant}
 use Rattle.riscu.specs.Machine.{State, reg, offset}
 use Rattle.riscu.specs.declared.Operation.{Operation}
 use Rattle.riscu.specs.declared.Operation.the-variants.{Add, Sub, Mul, Divu, Remu, Sltu}
 use Rattle.riscu.specs.declared.Instruction.{Instruction}
-use Rattle.riscu.specs.declared.Instruction.the-variants.{Lui, Addi, Register, Ld, Sd, Beq, Jal, Jalr, Ecall}
+use Rattle.riscu.specs.declared.Instruction.the-variants.{Lui, Immediate, Register, Ld, Sd, Branch, Jal, Jalr, Ecall}
 use Rattle.listing.specs.Group.{Job, Group, after, sortingOf, operand, viewOf}
-use Rattle.listing.specs.Ending.{Point, first, lastAddress, badAddress, sameRegister, operandOpen, bothOpen, twoOpen}
+use Rattle.listing.specs.Ending.{_⇒_, first, lastAddress, badAddress, sameRegister, operandOpen, bothOpen, twoOpen}
 use Rattle.listing.specs.Ending.{operationPoints, operandPoints, addressPoints, points}
+use Rattle.listing.proofs.First.{first-none, first-none-append}
 use Rattle.listing.specs.declared.Operand.{Operand}
 use Rattle.listing.specs.declared.Operand.the-variants.{InRegister, Constant}
 use Rattle.listing.specs.declared.Sorting.{Sorting}
 use Rattle.listing.specs.declared.Sorting.the-variants.{Operates, Compares, Nothing}
 use Rattle.listing.specs.declared.End.{End}
-use Rattle.corners.specs.Smooth.{EitherOpen, WithItself, Same, OneSame, DataAddress, Completes, baseOf}
-use Rattle.corners.specs.Smooth.{BaseSame, PairSettled, OperandsSettled, Settled}
+use Rattle.corners.specs.Working.Smooth.{EitherOpen, WithItself, Same, OneSame, DataAddress, Completes, baseOf}
+use Rattle.corners.specs.Working.Smooth.{BaseSame, PairSettled, OperandsSettled, Settled}
 
 -- tests that fail
 
@@ -69,28 +69,6 @@ read-tests o₁₇ o₁₀ o₁₁ o₁₂ true x z e bad h₁ h₂ h₃ h₄ =
     let (y, w) = and-eq-true-iff z e .0 (not-false (z && e) h₂) in
     record { open₁₇ = p; open₁₀ = s; open₁₁ = u; open₁₂ = v; read = refl; zero₁₀ = y; eight₁₂ = w; good = h₃ }
 read-tests o₁₇ o₁₀ o₁₁ o₁₂ false x z e bad h₁ h₂ h₃ h₄ = absurd (true≢false (rw h₄ at h₂))
-
--- none of the points applies
-pub first-none : (p : Point) (ps : List Point) → first (p ∷ ps) ≡ none → (p .applies ≡ false) × (first ps ≡ none)
-unfolding first
-first-none p ps e = by-test (p .applies) (λ t. (cc, cc)) (λ t. (t, rw t at e))
-
-unfoldable pub otherwise : Option End → Option End → Option End
-otherwise (some e) o = some e
-otherwise none o = o
-
-pub first-append : (ps qs : List Point) → first (ps ++ qs) ≡ otherwise (first ps) (first qs)
-unfolding first otherwise
-first-append [] qs = refl
-first-append (p ∷ ps) qs = let ih = first-append ps qs in by-test (p .applies) (λ t. rw t) (λ t. rw t ih)
-
-pub first-none-append : (ps qs : List Point) → first (ps ++ qs) ≡ none → (first ps ≡ none) × (first qs ≡ none)
-unfolding otherwise
-first-none-append ps qs e = go (first ps) (sym (first-append ps qs) ∙ e)
-  where
-    go : (o : Option End) → otherwise o (first qs) ≡ none → (o ≡ none) × (first qs ≡ none)
-    go (some x) d = (d, cc)
-    go none d = (refl, d)
 
 module _ (j : Job) (g : Group) where
   abbrev pub states : Choice → State
@@ -137,8 +115,7 @@ module _ (j : Job) (g : Group) where
 
   -- the base is fixed, and the address is good for every choice
   base-followed : (r : ℕ) (imm : ℤ) (x y : End)
-      → first (record { applies = viewOf j g .isOpen (reg r); end = x }
-      ∷ record { applies = badAddress (viewOf j g .lowest (offset r imm)); end = y } ∷ []) ≡ none
+      → first ((viewOf j g .isOpen (reg r) ⇒ x) ∷ (badAddress (viewOf j g .lowest (offset r imm)) ⇒ y) ∷ []) ≡ none
       → Same (g .box) (λ c. reg r (states c)) × ((c : Choice) → Inside c (g .box) → DataAddress (offset r imm (states c)))
   base-followed r imm x y e =
       let (p, d) = first-none _ _ e in
@@ -175,11 +152,11 @@ module _ (j : Job) (g : Group) where
       → BaseSame (g .box) states (baseOf i) × ((c : Choice) → Inside c (g .box) → Completes i (states c))
   unfolding addressPoints
   address-followed (Lui rd imm) e = (tt, λ c m. tt)
-  address-followed (Addi rd rs1 imm) e = (tt, λ c m. tt)
+  address-followed (Immediate op rd rs1 imm) e = (tt, λ c m. tt)
   address-followed (Register op rd rs1 rs2) e = (tt, λ c m. tt)
   address-followed (Ld rd rs1 imm) e = base-followed rs1 imm _ _ e
   address-followed (Sd rs1 rs2 imm) e = base-followed rs1 imm _ _ e
-  address-followed (Beq rs1 rs2 imm) e = (tt, λ c m. tt)
+  address-followed (Branch on rs1 rs2 imm) e = (tt, λ c m. tt)
   address-followed (Jal rd imm) e = (tt, λ c m. tt)
   address-followed (Jalr rd rs1 imm) e = (closed (reg rs1) (first-none _ _ e .0), λ c m. tt)
   address-followed Ecall e = read-followed e

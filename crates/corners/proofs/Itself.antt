@@ -9,22 +9,24 @@ use Prim.Native.Nat.{ℕ, _+_}
 use lib.Dec.{eqb}
 use lib.IntN.{ℤ}
 use borrow.Author.Tests.{eq-eqb}
-use Rattle.boxes.specs.Boxes.{Proper}
+use Rattle.boxes.specs.Working.Cuts.{Proper}
 use Rattle.boxes.proofs.Lists.{by-test}
-use Rattle.riscu.specs.Word.{word, widen}
+use Rattle.words.specs.Word.{word, widen}
 use Rattle.riscu.specs.Machine.{State, reg, put, next, jump, step}
-use Rattle.riscu.specs.Whole.{Whole}
+use Rattle.riscu.specs.Working.Whole.{Whole}
 use Rattle.riscu.specs.declared.Operation.{Operation}
 use Rattle.riscu.specs.declared.Operation.the-variants.{Add, Sub, Mul, Divu, Remu, Sltu}
+use Rattle.riscu.specs.declared.Condition.{Condition}
+use Rattle.riscu.specs.declared.Condition.the-variants.{Equal}
 use Rattle.riscu.specs.declared.Instruction.{Instruction}
-use Rattle.riscu.specs.declared.Instruction.the-variants.{Register, Beq}
+use Rattle.riscu.specs.declared.Instruction.the-variants.{Register, Branch}
 use Rattle.listing.specs.Group.{Job, Group, after, View, sortingOf, classBy, classOf}
 use Rattle.listing.specs.Ending.{first, openAt, twoOpen, operationPoints, operandPoints, addressPoints, points}
 use Rattle.listing.specs.declared.Operand.the-variants.{InRegister}
 use Rattle.listing.specs.declared.Reason.the-variants.{BothOpen, DivisorOpen}
 use Rattle.listing.specs.declared.End.{End}
 use Rattle.listing.specs.declared.End.the-variants.{NotFollowed}
-use Rattle.corners.specs.Smooth.{WithItself}
+use Rattle.corners.specs.Working.Smooth.{WithItself}
 use Rattle.corners.proofs.Unforked.{Unforked, one-class}
 use Rattle.corners.proofs.Operations.{with-itself, class-itself, result-itself, comparison-itself}
 
@@ -51,12 +53,12 @@ operation-itself op i rd r =
           by-test (eqb rd 0) (λ z. rw z) (λ z. rw z (class-itself op i (reg r (after j (g .steps) c)))));
     }
 
-pub branch-itself : (r : ℕ) (imm : ℤ) → AlwaysFollowed (Beq r r imm)
+pub branch-itself : (on : Condition) (r : ℕ) (imm : ℤ) → AlwaysFollowed (Branch on r r imm)
 unfolding points addressPoints operandPoints sortingOf classOf classBy first
-branch-itself r imm =
+branch-itself Equal r imm =
     record {
       passes = λ v. rw (not-two-itself v r);
-      unforked = λ j g p. one-class j g (Beq r r imm) 1 p (λ c m. comparison-itself (reg r (after j (g .steps) c)));
+      unforked = λ j g p. one-class j g (Branch Equal r r imm) 1 p (λ c m. comparison-itself (reg r (after j (g .steps) c)));
     }
 
 pub operation-gives-0 : (op : Operation) → WithItself op → (inputs : List ℕ) (rd r : ℕ) (s : State) → Whole s
@@ -65,7 +67,7 @@ unfolding step
 operation-gives-0 op i inputs rd r s w = rw (result-itself op i (reg r s) (w .registers .words r))
 
 pub branch-taken : (inputs : List ℕ) (r : ℕ) (imm : ℤ) (s : State)
-    → step inputs (Beq r r imm) s ≡ jump s (word (s .pc + widen imm)) (s .registers)
+    → step inputs (Branch Equal r r imm) s ≡ jump s (word (s .pc + widen imm)) (s .registers)
 unfolding step
 branch-taken inputs r imm s = rw (eq-eqb (reg r s) (reg r s) refl)
 

@@ -11,7 +11,8 @@ use native.Mathlib.Omega.{arith}
 use native.Mathlib.Decide.{decLt}
 use lib.Dec.{eqb}
 use borrow.Author.Tests.{eqb-false, ltb-false}
-use Rattle.boxes.specs.Boxes.{Box, Proper, lows, highs, Within, _∈_}
+use Rattle.boxes.specs.Boxes.{Box, lows, highs, Within, _∈_}
+use Rattle.boxes.specs.Working.Cuts.{Proper}
 use Rattle.boxes.proofs.Choices.{lows-inside, highs-inside, inside-at}
 use Rattle.boxes.proofs.OneInput.{one-input-convex}
 use Rattle.boxes.proofs.Partition.{Partition, pieces-partition}
@@ -24,10 +25,11 @@ use Rattle.listing.specs.Ending.{Point, first, points, needs, endAt, endBy, end
 use Rattle.listing.specs.Listing.{Path, Progress, progress, whole, later, pathOf, splitBy, moveBy, moveFrom, moves, begin}
 use Rattle.listing.specs.declared.End.{End}
 use Rattle.corners.proofs.Smooth.{followed-within, smooth-within}
-use Rattle.corners.proofs.Followed.{first-none, first-none-append, points-followed}
+use Rattle.listing.proofs.First.{first-none, first-none-append}
+use Rattle.corners.proofs.Followed.{points-followed}
 use Rattle.corners.proofs.Corner.{good-uniform, class-one}
-use Rattle.corners.specs.Smooth.{Same, Followed}
-use Rattle.corners.specs.Good.{Sound, Good, inputOf}
+use Rattle.corners.specs.Working.Smooth.{Same, Followed}
+use Rattle.corners.specs.Working.Good.{Sound, Good, inputOf}
 
 -- a group that goes on: it has an instruction, and none of the points 4 to 10 applies
 pub record Continues (j : Job) (g : Group) : Type 0 where

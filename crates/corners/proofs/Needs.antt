@@ -8,12 +8,12 @@ use lib.Dec.{eqb, ltb}
 use lib.ListN.{length}
 use borrow.Author.Tests.{eqb-true, eqb-false, lt-ltb}
 use Rattle.boxes.specs.Boxes.{Choice, Box, lows, highs}
-use Rattle.boxes.specs.Cuts.{above, edge, cornerPieces}
+use Rattle.boxes.specs.Working.Cuts.{above, edge, cornerPieces}
 use Rattle.boxes.proofs.Lists.{by-test}
 use Rattle.riscu.specs.declared.Instruction.{Instruction}
 use Rattle.listing.specs.Group.{Job, Group, classOf, after}
 use Rattle.listing.specs.Ending.{writes, needs}
-use Rattle.corners.specs.Good.{lowState, highState, inputOf, cornersOf}
+use Rattle.corners.specs.Working.Good.{lowState, highState, inputOf, cornersOf}
 
 some-piece : (n : ℕ) (k : Choice → ℕ) (x : ℕ) (b : Box) → 0 < length (cornerPieces n k x b)
 unfolding cornerPieces

@@ -4,6 +4,7 @@
 use mathlib.Core.Path.{_≡_, refl, sym}
 use mathlib.Core.Logic.{_⊎_, inl, inr}
 use mathlib.Core.Bool.{cond}
+use mathlib.Core.List.{List}
 use Prim.Native.Nat.{ℕ, zero, suc, _+_, _-_, _*_, _/_, _%_, _≤_, _<_}
 use native.Mathlib.Nat.{div-add-mod, div-zero, le-div-iff-mul-le, div-mul-le-self, mul-le-mul-left, mul-le-mul-right}
 use native.Mathlib.Omega.{arith}
@@ -11,12 +12,15 @@ use native.Mathlib.Decide.{decLt}
 use lib.Dec.{ltb, eqb}
 use borrow.Author.Tests.{ltb-true, ltb-false, lt-ltb, le-ltb, eqb-true, eqb-false, eq-eqb}
 use Rattle.boxes.proofs.Lists.{by-test}
-use Rattle.riscu.specs.Word.{size, word}
-use Rattle.riscu.specs.Machine.{operate}
+use Rattle.words.specs.Word.{size, word}
+use Rattle.riscu.specs.Machine.{operate, taken}
 use Rattle.riscu.specs.declared.Operation.{Operation}
 use Rattle.riscu.specs.declared.Operation.the-variants.{Add, Sub, Mul, Divu, Remu, Sltu}
-use Rattle.listing.specs.Group.{sortOf, comparison}
-use Rattle.corners.specs.Smooth.{EitherOpen, WithItself}
+use Rattle.riscu.specs.declared.Condition.{Condition}
+use Rattle.riscu.specs.declared.Condition.the-variants.{Equal}
+use Rattle.listing.specs.Group.{sortOf, comparison, branchSorting, operand, classBy}
+use Rattle.listing.specs.declared.Operand.{Operand}
+use Rattle.corners.specs.Working.Smooth.{EitherOpen, WithItself}
 
 -- f goes one way in its first argument, the second held fixed, at the arguments that S relates
 abbrev pub Monotone : (ℕ → ℕ → ℕ → Type 0) → (ℕ → ℕ → ℕ) → Type 0
@@ -77,11 +81,18 @@ comparison-less a b =
     (λ e. let q = eqb-true a b e in rw (t, e, le-ltb b a (omega arith)))
     (λ e. let q : ¬ (a ≡ b) = eqb-false a b e in rw (t, e, lt-ltb b a (omega arith))))
 
-pub comparison-equal : (a b : ℕ) → eqb a b ≡ eqb (comparison a b) 1
+comparison-equal : (a b : ℕ) → eqb a b ≡ eqb (comparison a b) 1
 unfolding comparison
 comparison-equal a b = by-test (eqb a b)
     (λ e. let q = eqb-true a b e in rw (le-ltb a b (omega arith), e))
     (λ e. by-test (ltb a b) (λ t. rw (t, e)) (λ t. rw (t, e)))
+
+-- in registers of one class a branch goes one way
+pub taken-same : (on : Condition) (x y : Operand) (l m : List ℕ)
+    → classBy (branchSorting on x y) l ≡ classBy (branchSorting on x y) m
+    → taken on (operand x l) (operand y l) ≡ taken on (operand x m) (operand y m)
+unfolding classBy
+taken-same Equal x y l m e = cc (e, comparison-equal (operand x l) (operand y l), comparison-equal (operand x m) (operand y m))
 
 -- Three ways to sort: by the wrap, by the result itself, not at all.
 

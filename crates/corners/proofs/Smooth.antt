@@ -11,7 +11,7 @@ use Rattle.listing.specs.declared.Operand.{Operand}
 use Rattle.listing.specs.declared.Sorting.{Sorting}
 use Rattle.listing.specs.declared.Sorting.the-variants.{Operates, Compares, Nothing}
 use Rattle.corners.proofs.Tame.{same-within}
-use Rattle.corners.specs.Smooth.{OneSame, baseOf, BaseSame, PairSettled, OperandsSettled, Followed, Smooth}
+use Rattle.corners.specs.Working.Smooth.{OneSame, baseOf, BaseSame, PairSettled, OperandsSettled, Followed, Smooth}
 
 -- what holds on a box holds on a box within it
 

@@ -8,17 +8,17 @@ use Prim.Native.Nat.{ℕ, _<_}
 use native.Mathlib.Omega.{arith}
 use lib.Dec.{eqb}
 use borrow.Author.Tests.{eqb-true, eqb-false}
-use Rattle.boxes.specs.Boxes.{Choice, Box, Proper, Within, lows, highs, Inside}
-use Rattle.boxes.specs.Cuts.{OneInput}
+use Rattle.boxes.specs.Boxes.{Choice, Box, Within, lows, highs, Inside}
+use Rattle.boxes.specs.Working.Cuts.{Proper, OneInput}
 use Rattle.boxes.proofs.Lists.{by-test}
 use Rattle.boxes.proofs.Choices.{lows-inside, highs-inside}
 use Rattle.boxes.proofs.OneInput.{one-input-constant, one-input-rise, one-input-fall, constant-corner}
-use Rattle.riscu.specs.Word.{size}
+use Rattle.words.specs.Word.{size}
 use Rattle.riscu.specs.Machine.{operate}
 use Rattle.riscu.specs.declared.Operation.{Operation}
 use Rattle.listing.specs.Group.{sortOf, comparison}
 use Rattle.corners.proofs.Operations.{Monotone, Words, flip, open-first, open-second, comparison-rises, comparison-falls}
-use Rattle.corners.specs.Smooth.{EitherOpen, Same, OneSame}
+use Rattle.corners.specs.Working.Smooth.{EitherOpen, Same, OneSame}
 
 pub same-within : {A : Type 0} {f : Choice → A} (a b : Box) → Within a b → Same b f → Same a f
 same-within a b w h c d m n = h c d (w c m) (w d n)

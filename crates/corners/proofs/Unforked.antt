@@ -6,7 +6,8 @@ use Prim.Native.Nat.{ℕ}
 use native.Mathlib.Omega.{arith}
 use lib.Dec.{ltb}
 use lib.ListN.{length}
-use Rattle.boxes.specs.Boxes.{Choice, Proper, Inside, lows}
+use Rattle.boxes.specs.Boxes.{Choice, Inside, lows}
+use Rattle.boxes.specs.Working.Cuts.{Proper}
 use Rattle.boxes.proofs.Choices.{lows-inside}
 use Rattle.boxes.proofs.Pieces.{pieces-one}
 use Rattle.riscu.specs.declared.Instruction.{Instruction}

@@ -9,19 +9,19 @@ use Prim.Native.Nat.{ℕ, zero, suc, _/_, _<_}
 use native.Mathlib.Omega.{arith}
 use lib.Dec.{eqb, ltb}
 use lib.ListN.{length, getD, set, length-set, length-replicate}
-use Rattle.boxes.specs.Boxes.{Choice, Box, Proper, lows, highs, Inside, Within}
-use Rattle.boxes.specs.Cuts.{OneInput}
+use Rattle.boxes.specs.Boxes.{Choice, Box, lows, highs, Inside, Within}
+use Rattle.boxes.specs.Working.Cuts.{Proper, OneInput}
 use Rattle.boxes.proofs.Lists.{by-test}
 use Rattle.boxes.proofs.Places.{getD-set}
 use Rattle.boxes.proofs.Choices.{lows-inside, inside-at, inside-length}
 use Rattle.boxes.proofs.OneInput.{one-input-constant, one-input-within}
-use Rattle.riscu.specs.Word.{size, widen}
+use Rattle.words.specs.Word.{size, widen}
 use Rattle.riscu.specs.Machine.{State, reg, putIn, put, next, following, operate, offset, fetch, step, readInput, readNext, stepDecoded}
 use Rattle.riscu.specs.Machine.{run}
 use Rattle.riscu.specs.declared.Operation.{Operation}
-use Rattle.riscu.specs.declared.Operation.the-variants.{Add}
+use Rattle.riscu.specs.declared.Condition.the-variants.{Equal}
 use Rattle.riscu.specs.declared.Instruction.{Instruction}
-use Rattle.riscu.specs.declared.Instruction.the-variants.{Lui, Addi, Register, Ld, Sd, Beq, Jal, Jalr, Ecall}
+use Rattle.riscu.specs.declared.Instruction.the-variants.{Lui, Immediate, Register, Ld, Sd, Branch, Jal, Jalr, Ecall}
 use Rattle.riscu.specs.declared.Decoded.the-variants.{Row}
 use Rattle.riscu.proofs.Whole.{widen-word, start-whole, run-whole}
 use Rattle.listing.specs.Group.{Job, after, sortOf, comparison, sortingOf, operand, classBy, classOf}
@@ -29,13 +29,13 @@ use Rattle.listing.specs.declared.Operand.{Operand}
 use Rattle.listing.specs.declared.Operand.the-variants.{InRegister, Constant}
 use Rattle.listing.specs.declared.Sorting.{Sorting}
 use Rattle.listing.specs.declared.Sorting.the-variants.{Operates, Compares, Nothing}
-use Rattle.corners.proofs.Operations.{comparison-equal, class-itself, result-itself, comparison-itself}
+use Rattle.corners.proofs.Operations.{taken-same, class-itself, result-itself, comparison-itself}
 use Rattle.corners.proofs.Tame.{tagOf, one-input-cong, one-input-number, sort-one-input, comparison-one-input, result-one-input}
-use Rattle.riscu.specs.Whole.{Whole}
-use Rattle.corners.specs.Smooth.{Same, OneSame, PairSettled, OperandsSettled, Settled, Smooth}
-use Rattle.corners.specs.Tags.{Tags, toRegister, tagIn, tagStep, tagBy, classTag, tagDecoded, tagsAt}
-use Rattle.corners.specs.Uniform.{Elements, Uniform}
-use Rattle.corners.specs.Good.{Sound}
+use Rattle.riscu.specs.Working.Whole.{Whole}
+use Rattle.corners.specs.Working.Smooth.{Same, OneSame, PairSettled, OperandsSettled, Settled, Smooth}
+use Rattle.corners.specs.Working.Tags.{Tags, toRegister, tagIn, tagStep, tagBy, classTag, tagDecoded, tagsAt}
+use Rattle.corners.specs.Working.Uniform.{Elements, Uniform}
+use Rattle.corners.specs.Working.Good.{Sound}
 
 -- the constants that an instruction sorts by are words
 abbrev pub WordIn : Operand → Type 0
@@ -50,11 +50,11 @@ WordsIn Nothing = Unit {0}
 pub sorting-words : (i : Instruction) → WordsIn (sortingOf i)
 unfolding sortingOf
 sorting-words (Lui rd imm) = tt
-sorting-words (Addi rd rs1 imm) = by-test (eqb rd 0) (λ z. rw z tt) (λ z. rw z (tt, widen-word imm))
+sorting-words (Immediate op rd rs1 imm) = by-test (eqb rd 0) (λ z. rw z tt) (λ z. rw z (tt, widen-word imm))
 sorting-words (Register op rd rs1 rs2) = by-test (eqb rd 0) (λ z. rw z tt) (λ z. rw z (tt, tt))
 sorting-words (Ld rd rs1 imm) = tt
 sorting-words (Sd rs1 rs2 imm) = tt
-sorting-words (Beq rs1 rs2 imm) = (tt, tt)
+sorting-words (Branch Equal rs1 rs2 imm) = (tt, tt)
 sorting-words (Jal rd imm) = tt
 sorting-words (Jalr rd rs1 imm) = tt
 sorting-words Ecall = tt
@@ -165,11 +165,11 @@ module _ {b : Box} (proper : Proper b) {s : Choice → State} {t : Tags} (whole 
 
   pub step-uniform : (i : Instruction) → Settled b s i → Same b (λ c. classOf i (s c))
       → Uniform b (λ c. step c i (s c)) (tagStep (lows b) i (s (lows b)) (s (highs b)) t)
-  unfolding step readNext tagStep sortingOf classBy classOf operate
+  unfolding step readNext tagStep sortingOf classOf
   step-uniform (Lui rd imm) h e = put-uniform rd (constant (λ c d m n. refl)) next-pc
-  step-uniform (Addi rd rs1 imm) h e =
+  step-uniform (Immediate op rd rs1 imm) h e =
       rw (← cond-same (eqb (reg rs1 (s (lows b))) (reg rs1 (s (highs b)))) (getD (t .registers) rs1 0))
-      (operated Add rd (InRegister rs1) (Constant (widen imm)) (one-input-constant b (λ c d m n. refl)) tt (widen-word imm) (h .1) e)
+      (operated op rd (InRegister rs1) (Constant (widen imm)) (one-input-constant b (λ c d m n. refl)) tt (widen-word imm) (h .1) e)
   step-uniform (Register op rd rs1 rs2) h e = operated op rd (InRegister rs1) (InRegister rs2) (u .registers .one rs2) tt tt (h .1) e
   step-uniform (Ld rd rs1 imm) h e =
       let k : Same b (λ c. offset rs1 imm (s c) / 8) = λ c d m n. cc (h .0 c d m n) in
@@ -181,15 +181,9 @@ module _ {b : Box} (proper : Proper b) {s : Choice → State} {t : Tags} (whole 
         registers = u .registers;
         memory = stored (λ c d m n. cc (h .0 c d m n)) (u .registers .one rs2);
       }
-  step-uniform (Beq rs1 rs2 imm) h e =
+  step-uniform (Branch on rs1 rs2 imm) h e =
       record {
-        pc =
-            λ c d m n. cc (
-              e c d m n,
-              u .pc c d m n,
-              comparison-equal (reg rs1 (s c)) (reg rs2 (s c)),
-              comparison-equal (reg rs1 (s d)) (reg rs2 (s d)),
-            );
+        pc = λ c d m n. cc (taken-same on (InRegister rs1) (InRegister rs2) (s c .registers) (s d .registers) (e c d m n), u .pc c d m n);
         reads = u .reads;
         registers = u .registers;
         memory = u .memory;

@@ -20,19 +20,21 @@ use Rattle.listing.specs.declared.End.the-variants.{Exit, BadPc, BadWord, BadAd
 use Rattle.blocks.specs.Reading.{Tells}
 use Rattle.blocks.specs.Record.{mostInputs}
 use Rattle.blocks.specs.Report.{recordsIn, recordAt}
+use Rattle.blocks.specs.Said.{Said, saidAt, saidOf}
+use Rattle.blocks.proofs.Said.{said-told}
 use Rattle.calls.specs.Call.{Call, inputsOf, Below, Typed, written, more, isPage, refusalOf, jobOf, Reply, replyBy, replyTo}
 use Rattle.calls.specs.Complete.{IsPath}
 use Rattle.calls.specs.Reported.{Reported}
 use Rattle.calls.specs.declared.Answer.the-variants.{Refused, Page}
 use Rattle.calls.specs.declared.Refusal.{Refusal}
-use Rattle.corners.specs.Good.{Sound}
+use Rattle.corners.specs.Working.Good.{Sound}
 use Rattle.demands.proofs.Accepted.{accepted-sound, job-inputs, inputs-counted, path-inputs}
 use Rattle.demands.proofs.Reported.{reported}
 use Rattle.serving.specs.Served.{tableWords, reply}
 use Rattle.counting.specs.Counting.{Result, resultOf, mostPaths, kindPlaces, countsBy, countsOf}
 use Rattle.counting.specs.Count.{pathsFit}
-use Rattle.counting.specs.Adding.{boxAt, partAt, partOf, partsIn, Part, sumOn, addedUp, Adds}
-use Rattle.counting.proofs.Parts.{box-told, part-told, map-places}
+use Rattle.counting.specs.Working.Adding.{partIn, partOf, partsIn, Part, sumOn, addedUp, Adds}
+use Rattle.counting.proofs.Parts.{map-places}
 use Rattle.counting.proofs.Sums.{choices-sum, sum-all, path-proper}
 
 -- every kind has a place
@@ -111,15 +113,18 @@ module _ (memory : List ℕ) (c : Call) (bounded : Below (2 ^ 64) memory) (typed
             let same : t .path ≡ p = cc in
             subst (λ (q : Path). Tells (recordAt n bytes i) i q) same (subst (λ (k : ℕ). Tells (recordAt n bytes i) k (t .path)) (from-zero i) (t .tells))
 
-        part-is : partAt n (recordAt n bytes i) ≡ partOf p
-        part-is = rw inputs-are at (part-told tells few-inputs)
+        said : saidAt n bytes i ≡ saidOf i p
+        said = rw inputs-are at (said-told tells few-inputs)
 
-        box-is : boxAt n (recordAt n bytes i) ≡ p .box
-        box-is = rw inputs-are at (box-told tells few-inputs)
+        part-is : partIn (saidAt n bytes i) ≡ partOf p
+        part-is = ap partIn said
+
+        box-is : saidAt n bytes i .box ≡ p .box
+        box-is = ap (λ (s : Said). s .box) said
 
       pub parts-are : partsIn n bytes count ≡ map partOf (listing j)
       unfolding partsIn
-      parts-are = rw all (map-places (λ (k : ℕ). partAt n (recordAt n bytes k)) partOf (listing j) 0 (λ i p z. rw zero-add (part-is i p z)))
+      parts-are = rw all (map-places (λ (k : ℕ). partIn (saidAt n bytes k)) partOf (listing j) 0 (λ i p z. rw zero-add (part-is i p z)))
 
       pub adds : size (j .box) < 2 ^ 64 → Adds bytes n count (size (j .box))
       adds fits = record {

@@ -11,7 +11,7 @@ use Rattle.boxes.specs.Boxes.{keep}
 use Rattle.boxes.proofs.Lists.{by-test}
 use Rattle.counting.specs.Counting.{Result, isFixed, exitsWith, exitValues, mostPaths, inPlaces}
 use Rattle.counting.specs.Promised.{addAll}
-use Rattle.counting.specs.Adding.{Part, sumOn, sumAll, resultsOf, Entry, entry, joined, sumOf, carried, laid, Room, AddedTo}
+use Rattle.counting.specs.Working.Adding.{Part, sumOn, sumAll, resultsOf, Entry, entry, joined, sumOf, carried, laid, Room, AddedTo}
 use Rattle.counting.proofs.Sliding.{nothing}
 use Rattle.counting.proofs.Tallies.{valueOf, countOf, tally, tally-rises, tally-sum, insert-length, carries, entryOf, fixedEntries}
 use Rattle.counting.proofs.Tallies.{tally-few, tally-values, tally-counts, entries-sum}

@@ -5,13 +5,12 @@
 --     Sliding     one insertion into the two lists of values and choices
 --     Tallies     the values, each once and rising, with the sums of their choices
 --     Gathered    what the two lists hold in the loop over the paths
---     Held        what the loop over the records holds
---     Parts       what a record adds is what its path adds
+--     Summed      what the loop over the records holds
+--     Parts       numbers in a row, and a list whose elements they are the places of
 --     Explored    a job explored from path 0, and what its report adds up to
 --     Started     the code's answers to a job that was read are the job's
 --     Read        a job that was read: what is left of its questions
 --     Totals      the counts add up to all the choices
---     Numbers     the numbers of the refusals
 --     Promises    what a call answers
 --     Examples    small jobs with their counts, computed
 pub mod Widths
@@ -20,12 +19,11 @@ pub mod Products
 pub mod Sliding
 pub mod Tallies
 pub mod Gathered
-pub mod Held
+pub mod Summed
 pub mod Parts
 pub mod Explored
 pub mod Started
 pub mod Read
 pub mod Totals
-pub mod Numbers
 pub mod Promises
 pub mod Examples

@@ -9,13 +9,13 @@ use native.Mathlib.Omega.{arith}
 use lib.ListN.{length, getD, drop, drop-of-length-le, length-map}
 use lib.Seq.{drop-cons}
 use borrow.Author.Tests.{lt-ltb, le-ltb}
-use Rattle.boxes.specs.Boxes.{Box, Interval, _⋯_, Proper, from, width, choices, size}
+use Rattle.boxes.specs.Boxes.{Box, Interval, _⋯_, from, width, choices, size}
+use Rattle.boxes.specs.Working.Cuts.{Proper}
 use Rattle.boxes.proofs.Choices.{size-positive}
 use Rattle.boxes.proofs.Lists.{from-at, length-from}
-use Rattle.blocks.specs.Block.{wordAt}
-use Rattle.blocks.specs.Layout as layout
-use Rattle.riscu.specs.Word.{maxWord}
-use Rattle.counting.specs.Adding.{sized, boxAt}
+use Rattle.blocks.specs.Said.{inputIn, saidIn}
+use Rattle.words.specs.Word.{maxWord}
+use Rattle.counting.specs.Working.Adding.{sized}
 use Rattle.counting.specs.declared.sizes.BoxSize.the-variants.{Fits, Over}
 use Rattle.counting.proofs.Widths.{size-cons}
 
@@ -102,12 +102,10 @@ size-fits b {n} e l = ap Fits e ∙ rw (lt-ltb (size b) (2 ^ 64) (omega arith))
 
 -- the box of a record
 
-pub record-length : (n : ℕ) (bytes : List ℕ) → length (boxAt n bytes) ≡ n
-unfolding boxAt
-record-length n bytes = length-map (from 0 n) _ ∙ length-from n 0
+pub record-length : (n : ℕ) (bytes : List ℕ) → length (saidIn n bytes .box) ≡ n
+record-length n bytes = length-map (from 0 n) (inputIn n bytes) ∙ length-from n 0
 
-pub interval-is : (n : ℕ) (bytes : List ℕ) (i : ℕ) {low high : ℕ} → i < n → low ≡ wordAt bytes (layout.lows + i)
-    → high ≡ wordAt bytes (layout.highs + i) → getD (boxAt n bytes) i (0 ⋯ 0) ≡ low ⋯ high
-unfolding boxAt
+pub interval-is : (n : ℕ) (bytes : List ℕ) (i : ℕ) {low high : ℕ} → i < n → low ≡ inputIn n bytes i .low
+    → high ≡ inputIn n bytes i .high → getD (saidIn n bytes .box) i (0 ⋯ 0) ≡ low ⋯ high
 interval-is n bytes i h l r =
-    from-at (λ (k : ℕ). wordAt bytes (layout.lows + k) ⋯ wordAt bytes (layout.highs + k)) (0 ⋯ 0) n 0 i h ∙ rw (zero-add, l, r)
+    from-at (inputIn n bytes) (0 ⋯ 0) n 0 i h ∙ ap (inputIn n bytes) (zero-add i) ∙ (λ q. sym l q ⋯ sym r q)

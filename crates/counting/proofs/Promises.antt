@@ -2,8 +2,8 @@
 -- Assumes nothing.
 use mathlib.Core.Path.{_≡_, refl, sym, ap, _∙_, subst}
 use mathlib.Core.Bool.{Bool, true, _&&_, not, and-eq-true-iff, false≢true}
-use mathlib.Core.Logic.{_↔_, Iff·trans, _⊎_, inl, inr}
-use mathlib.Core.List.{List, [], _∷_, map, map-map, Memᴰ·map, Memᴰ·of-map, Memᴰ·append-left, Memᴰ·append-right, List·Memᴰ·head as here, List·Memᴰ·tail as there}
+use mathlib.Core.Logic.{_↔_}
+use mathlib.Core.List.{List, [], _∷_, map, map-map, Memᴰ·map, Memᴰ·of-map, List·Memᴰ·head as here, List·Memᴰ·tail as there}
 use mathlib.Core.Option.{Option, none, some}
 use Prim.Native.Nat.{ℕ, zero, suc, _+_, _-_, _^_, _≤_, _<_}
 use native.Mathlib.Nat.{zero-add}
@@ -23,22 +23,23 @@ use Rattle.listing.specs.Listing.{Path, listing}
 use Rattle.listing.specs.Numbers.{kindNumber}
 use Rattle.listing.specs.declared.End.{End}
 use Rattle.listing.specs.declared.End.the-variants.{Exit, BadPc, BadWord, BadAddress, BadCall, StepLimit, NotFollowed, TraceFull}
-use Rattle.corners.specs.Good.{Sound}
+use Rattle.corners.specs.Working.Good.{Sound}
 use Rattle.demands.proofs.Faithful.{listing-faithful}
-use Rattle.calls.specs.Call.{Below, firstNo}
+use Rattle.listing.specs.First.{first}
+use Rattle.listing.proofs.First.{first-none-append}
+use Rattle.calls.specs.Call.{Below}
+use Rattle.calls.specs.Border.{refusedNumber, SaysRefusal}
+use Rattle.calls.specs.declared.Refusal.{Refusal}
 use Rattle.calls.specs.Complete.{IsPath}
-use Rattle.calls.proofs.Asked.{all-yes, first-no}
-use Rattle.jobs.specs.Job.{jobAsks, jobQuestions, jobRefusalOf}
-use Rattle.reports.proofs.Numbers.{says-done, says-refused}
+use Rattle.calls.proofs.Asked.{passed}
+use Rattle.calls.proofs.Numbers.{says-refusal, tells-no}
+use Rattle.jobs.specs.Job.{jobQuestions}
 use Rattle.counting.specs.Counting.{Result, resultOf, isExit, isFixed, exitsWith, otherKind, isOn, choicesOn, exitValues, mostPaths, kindPlaces, countsBy, countsOf}
-use Rattle.counting.specs.Count.{jobFrom, countAsks, countQuestions, countNumber, countedBy, counted}
-use Rattle.counting.specs.Adding.{Part, partOf, sumOn, addedUp}
+use Rattle.counting.specs.Count.{jobFrom, sizeQuestions, countQuestions, countedBy, counted}
+use Rattle.counting.specs.Working.Adding.{Part, partOf, sumOn, addedUp}
 use Rattle.counting.specs.Promised.{addAll, SomePath, AllExitWith, JobCounts, CountsCall}
 use Rattle.counting.specs.declared.Counted.{Counted}
-use Rattle.counting.specs.declared.CountRefusal.{CountRefusal}
-use Rattle.counting.specs.declared.CountRefusal.the-variants as refusal
 use Rattle.counting.proofs.Explored.{kind-below, counts-are}
-use Rattle.counting.proofs.Numbers.{count-number-positive, count-number-injective}
 use Rattle.counting.proofs.Widths.{size-widths}
 use Rattle.counting.proofs.Read.{job-sound}
 use Rattle.counting.proofs.Sums.{on-path, path-on, choices-sum, sum-all}
@@ -215,49 +216,36 @@ module _ (j : Job) (sound : Sound j (j .box)) where
 
 -- the call
 module _ (bytes : List ℕ) where
-  cases : (o : Option CountRefusal) → ((r : CountRefusal) × (o ≡ some r)) ⊎ (o ≡ none)
-  cases (some r) = inl (r, refl)
-  cases none = inr refl
+  abbrev j : Job
+  j = jobFrom bytes
 
-  abbrev asked : Option CountRefusal
-  asked = firstNo (countAsks bytes) countQuestions
+  abbrev asked : Option Refusal
+  asked = first (countQuestions bytes)
 
-  abbrev numberBy : Option CountRefusal → ℕ
-  numberBy o = countedBy bytes o .refused
-
-  none-refused : numberBy none ≡ 0
+  -- its number is that of the first no, or 0
+  number-is : (o : Option Refusal) → countedBy j o .refused ≡ refusedNumber o
   unfolding countedBy countsOf countsBy
-  none-refused = refl
+  number-is none = refl
+  number-is (some r) = refl
 
-  some-refused : (r : CountRefusal) → numberBy (some r) ≡ countNumber r
-  unfolding countedBy
-  some-refused r = refl
+  says : SaysRefusal (countedBy j asked .refused) asked
+  says = rw (number-is asked) (says-refusal asked)
 
-  number-refused : (r : CountRefusal) → (numberBy asked ≡ countNumber r) ↔ (asked ≡ some r)
-  number-refused = says-refused (λ r. some r) none cases countNumber count-number-injective count-number-positive numberBy some-refused none-refused asked
-
-  number-accepted : (numberBy asked ≡ 0) ↔ (asked ≡ none)
-  number-accepted = says-done (λ r. some r) none cases countNumber count-number-injective count-number-positive numberBy some-refused none-refused asked
-
-  job-passes : ((q : CountRefusal) → q ∈ countQuestions → countAsks bytes q ≡ true) → jobRefusalOf bytes ≡ none
-  unfolding jobRefusalOf countAsks
-  job-passes h = all-yes (jobAsks bytes) jobQuestions .1 (λ q m. h (refusal.Job q) (Memᴰ·append-left _ (Memᴰ·map refusal.Job m)))
-
-  accepted-counts : Below (2 ^ 8) bytes → asked ≡ none → JobCounts (jobFrom bytes) (countedBy bytes none)
-  unfolding countedBy countAsks
+  accepted-counts : Below (2 ^ 8) bytes → asked ≡ none → JobCounts j (countedBy j none)
+  unfolding countedBy sizeQuestions
   accepted-counts b n =
-      let h = all-yes (countAsks bytes) countQuestions .0 n in
-      let own = map refusal.Job jobQuestions in
-      let small = ltb-true (size (jobFrom bytes .box)) (2 ^ 64) (h refusal.Size (Memᴰ·append-right own (here refl))) in
-      let few = leb-true (length (listing (jobFrom bytes))) mostPaths (h refusal.Paths (Memᴰ·append-right own (there (here refl)))) in
-      counts-sum (jobFrom bytes) (job-sound bytes (job-passes h) b) small few
+      let (own, rest) = first-none-append (jobQuestions bytes) (sizeQuestions j) n in
+      let (size-fits, rest₂) = passed _ _ _ rest in
+      let (paths-fit, _) = passed _ _ _ rest₂ in
+      let small = ltb-true (size (j .box)) (2 ^ 64) size-fits in
+      let few = leb-true (length (listing j)) mostPaths paths-fit in
+      counts-sum j (job-sound bytes own b) small few
 
   pub call-counts : Below (2 ^ 8) bytes → CountsCall bytes (counted bytes)
   unfolding counted
   call-counts b = record {
-    refused = λ q. Iff·trans (number-refused q) (first-no (countAsks bytes) countQuestions q);
-    accepted = Iff·trans number-accepted (all-yes (countAsks bytes) countQuestions);
-    turned-away = λ q e. rw (number-refused q .0 e) (unfold countedBy in refl);
-    size-is = size-widths (jobFrom bytes .box);
-    counts = λ e. let n = number-accepted .0 e in rw n (accepted-counts b n);
+    tells = tells-no (countQuestions bytes) (number-is asked);
+    turned-away = λ q e. rw (says .refused q .0 e) (unfold countedBy in refl);
+    size-is = size-widths (j .box);
+    counts = λ e. let n = says .accepted .0 e in rw n (accepted-counts b n);
   }

@@ -9,7 +9,7 @@ use lib.ListN.{length, getD, set, take, drop, take-append-drop}
 use lib.Seq.{length-take-le, take-suc, drop-cons, slice, slice-cons, slice-empty, length-slice}
 use lib.Seq.{take-set-lt, set-split, set-getD, take-suc-set, drop-set-lt, drop-drop}
 use borrow.Author.Tests.{lt-ltb, le-ltb, eq-eqb, ne-eqb}
-use Rattle.counting.specs.Adding.{Entry, entry, joined, sumOf, carried, laid}
+use Rattle.counting.specs.Working.Adding.{Entry, entry, joined, sumOf, carried, laid}
 
 abbrev pub nothing : Entry
 nothing = entry 0 0

@@ -8,22 +8,24 @@ use native.Mathlib.Omega.{arith}
 use borrow.Author.Tests.{ltb-true}
 use lib.Dec.{ltb}
 use lib.ListN.{take, length-take, length-replicate}
-use Rattle.boxes.specs.Boxes.{Proper, size}
+use Rattle.boxes.specs.Boxes.{size}
+use Rattle.boxes.specs.Working.Cuts.{Proper}
 use Rattle.boxes.proofs.Lists.{by-test}
 use Rattle.blocks.specs.Record.{recordBytes}
 use Rattle.blocks.specs.Report.{recordsIn}
 use Rattle.calls.specs.Call.{Call, inputsOf, boxOf, jobOf, replyTo}
 use Rattle.calls.specs.declared.Answer.the-variants.{Refused, Page}
 use Rattle.calls.specs.declared.Refusal.{Refusal}
-use Rattle.corners.specs.Good.{Sound}
+use Rattle.corners.specs.Working.Good.{Sound}
 use Rattle.jobs.specs.declared.Counts.{Counts}
 use Rattle.listing.specs.Group.{Job}
+use Rattle.listing.specs.First.{first}
 use Rattle.listing.specs.Listing.{listing}
 use Rattle.serving.specs.Served.{tableWords, reply}
 use Rattle.counting.specs.Counting.{mostPaths}
-use Rattle.counting.specs.Count.{countRefused}
-use Rattle.counting.specs.Adding.{sized, Part, partOf, partsIn, addedUp, Adds, startedCall, Startable, startedJob, countedJob}
-use Rattle.counting.specs.declared.CountRefusal.the-variants as refusal
+use Rattle.counting.specs.Count.{sizeQuestions, countRefused, countedBy}
+use Rattle.counting.specs.Working.Adding.{sized, Part, partOf, partsIn, addedUp, Adds, startedCall, Startable, startedJob, countedJob}
+use Rattle.calls.specs.declared.Refusal.the-variants.{Size, Paths}
 use Rattle.counting.specs.declared.sizes.BoxSize.the-variants.{Fits, Over}
 use Rattle.counting.proofs.Explored as explored
 
@@ -63,8 +65,8 @@ module _ {code intervals memory : List ℕ} {k : Counts} (p : Startable code int
   abbrev start-size : ℕ
   start-size = size (boxOf (take (2 * k .inputs) intervals))
 
-  pub start-over : sized start-size ≡ Over → countRefused refusal.Size ≡ countedJob j
-  unfolding jobOf
+  pub start-over : sized start-size ≡ Over → countRefused Size ≡ countedJob j
+  unfolding jobOf sizeQuestions first countedBy
   start-over e = rw (sized-over start-size e)
 
   pub start-refused : {r : Refusal} {bytes : List ℕ} → reply (Refused r) bytes ≡ replyTo memory tableWords call → ⊥
@@ -72,8 +74,8 @@ module _ {code intervals memory : List ℕ} {k : Counts} (p : Startable code int
 
   module _ {total : ℕ} (fits : sized start-size ≡ Fits total) {count : ℕ} {further : Bool} {bytes : List ℕ}
       (e : reply (Page count further) bytes ≡ replyTo memory tableWords call) where
-    pub start-many : further ≡ true → countRefused refusal.Paths ≡ countedJob j
-    unfolding jobOf
+    pub start-many : further ≡ true → countRefused Paths ≡ countedJob j
+    unfolding jobOf sizeQuestions first countedBy
     start-many m = rw (sized-fits start-size fits .1, explored.too-many memory call (p .memory-below) (p .typed) (p .accepted) refl room e m)
 
     module _ (f : further ≡ false) where
@@ -84,7 +86,7 @@ module _ {code intervals memory : List ℕ} {k : Counts} (p : Startable code int
           rw (← inputs-are, ← s) (explored.adds memory call (p .memory-below) (p .typed) (p .accepted) refl room e f (ltb-true start-size (2 ^ 64) b))
 
       pub start-counted : addedUp (partsIn (k .inputs) bytes count) total ≡ countedJob j
-      unfolding jobOf
+      unfolding jobOf sizeQuestions first countedBy
       start-counted =
           let (s, b) = sized-fits start-size fits in
           ap (λ (n : ℕ). addedUp (partsIn n bytes count) total) (sym inputs-are)

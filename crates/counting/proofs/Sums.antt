@@ -6,19 +6,22 @@ use mathlib.Core.List.{List, [], _∷_, map, Memᴰ·map, Memᴰ·of-map, List·
 use Prim.Native.Nat.{ℕ, _+_}
 use native.Mathlib.Omega.{arith}
 use lib.ListN.{length}
-use Rattle.boxes.specs.Boxes.{Choice, Box, Proper, choices, size, keep, lows, Inside, Within, _∈_}
+use Rattle.boxes.specs.Boxes.{Choice, Box, choices, size, keep, lows, Inside, Within, _∈_}
+use Rattle.boxes.specs.Working.Cuts.{Proper}
 use Rattle.boxes.proofs.Lists.{by-test, keep-all, keep-none}
 use Rattle.boxes.proofs.Places.{Pairwise}
 use Rattle.boxes.proofs.Choices.{mem-choices}
 use Rattle.boxes.proofs.Divides.{Disjoint}
 use Rattle.listing.specs.Group.{Job}
 use Rattle.listing.specs.Listing.{Path, listing}
-use Rattle.corners.specs.Good.{Sound}
+use Rattle.corners.specs.Working.Good.{Sound}
 use Rattle.paths.proofs.Paths.{pathBoxes, listing-divides}
 use Rattle.demands.proofs.Faithful.{listing-faithful}
-use Rattle.counting.specs.Counting.{Result, resultOf, isInside, isOn, choicesOn}
-use Rattle.counting.specs.Adding.{Part, partOf, sumOn, sumAll}
-use Rattle.counting.proofs.Widths.{inside-test, inside-proper, choices-inside}
+use Rattle.counting.specs.Counting.{Result, resultOf, isOn, choicesOn}
+use Rattle.counting.specs.Working.Adding.{Part, partOf, sumOn, sumAll}
+use Rattle.reports.specs.Placing.{isInside}
+use Rattle.reports.proofs.Records.{inside-test}
+use Rattle.counting.proofs.Widths.{inside-proper, choices-inside}
 
 -- two tests that nothing passes both of
 keep-either : {A : Type 0} (s t : A → Bool) (l : List A) → ((x : A) → s x ≡ true → t x ≡ true → ⊥)

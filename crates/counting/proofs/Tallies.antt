@@ -14,7 +14,7 @@ use borrow.Author.Tests.{ltb-true, ltb-false, eqb-true, eqb-false, lt-ltb, eq-eq
 use Rattle.boxes.specs.Boxes.{keep, _∈_}
 use Rattle.boxes.proofs.Lists.{by-test, map-cong, keep-map, keep-length}
 use Rattle.counting.specs.Counting.{Result, isFixed, exitsWith, inserted, rising, exitValues}
-use Rattle.counting.specs.Adding.{Part, sumOn, resultsOf, Entry, entry, sumOf, carried}
+use Rattle.counting.specs.Working.Adding.{Part, sumOn, resultsOf, Entry, entry, sumOf, carried}
 
 -- numbers in rising order, each once
 

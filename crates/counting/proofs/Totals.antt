@@ -12,7 +12,7 @@ use lib.ListN.{length, replicate}
 use Rattle.boxes.specs.Boxes.{from, _∈_}
 use Rattle.boxes.proofs.Lists.{by-test}
 use Rattle.counting.specs.Counting.{Result, isExit, isFixed, exitVaries, exitsWith, otherKind, exitValues, mostPaths, kindPlaces, countsBy}
-use Rattle.counting.specs.Adding.{Part, resultsOf, sumOn, sumAll, addedUp}
+use Rattle.counting.specs.Working.Adding.{Part, resultsOf, sumOn, sumAll, addedUp}
 use Rattle.counting.specs.Promised.{addAll}
 use Rattle.counting.proofs.Gathered.{fixed-sum}
 

@@ -8,7 +8,7 @@ use blocks::layout::EXIT_LOW;
 use blocks::layout::KIND;
 use blocks::report::record_word;
 ghost use mathlib.Core.Path.{_≡_};
-ghost use Rattle.counting.specs.Adding.{entry, Room, Added, Adds, partsIn, addedUp};
+ghost use Rattle.counting.specs.Working.Adding.{entry, Room, Added, Adds, partsIn, addedUp};
 
 // The kind of exit.
 const EXIT: usize = 1;

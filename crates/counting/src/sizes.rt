@@ -1,16 +1,16 @@
 // How many choices a box has: the product of the widths of its intervals.
 use blocks::report::input_high;
 use blocks::report::input_low;
+use words::MAX;
 ghost use mathlib.Core.Path.{_≡_};
 ghost use Prim.Native.Nat.{_≤_, _<_};
-ghost use Rattle.boxes.specs.Boxes.{Proper, size};
+ghost use Rattle.boxes.specs.Boxes.{size};
+ghost use Rattle.boxes.specs.Working.Cuts.{Proper};
 ghost use Rattle.blocks.specs.Record.{mostInputs};
-ghost use Rattle.blocks.specs.Report.{recordsIn, recordAt};
+ghost use Rattle.blocks.specs.Report.{recordsIn};
+ghost use Rattle.blocks.specs.Said.{saidAt};
 ghost use Rattle.calls.specs.Call.{boxOf};
-ghost use Rattle.counting.specs.Adding.{sized, boxAt, FitsWord};
-
-// MAX: the greatest word.
-const MAX: u64 = 18446744073709551615;
+ghost use Rattle.counting.specs.Working.Adding.{sized, FitsWord};
 
 // A size that is a word, or one that is too large for a word.
 pub(crate) enum BoxSize {
@@ -38,8 +38,8 @@ pub(crate) fn box_size(intervals: &[u64]) -> BoxSize
 
 // The size of the box of record k.
 pub(crate) fn path_size(report: &[u8], inputs: usize, k: usize) -> u64
-    requires { ⌜ (k < recordsIn inputs (now report)) × (inputs ≤ mostInputs) × FitsWord (boxAt inputs (recordAt inputs (now report) k)) ⌝ }
-    ensures { λ r. ⌜ r ≡ size (boxAt inputs (recordAt inputs (now (report .entry)) k)) ⌝ }
+    requires { ⌜ (k < recordsIn inputs (now report)) × (inputs ≤ mostInputs) × FitsWord (saidAt inputs (now report) k .box) ⌝ }
+    ensures { λ r. ⌜ r ≡ size (saidAt inputs (now (report .entry)) k .box) ⌝ }
 {
     let mut n: u64 = 1;
     let mut i: usize = 0;

@@ -3,17 +3,17 @@ use mathlib.Core.Path.{_≡_, sym}
 use mathlib.Core.List.{List}
 use Prim.Native.Nat.{ℕ}
 use lib.ListN.{length, getD}
-use Rattle.boxes.specs.Boxes.{Proper, at, lows, highs}
-use Rattle.boxes.specs.Cuts.{OneInput, below, boxIn}
+use Rattle.boxes.specs.Boxes.{at, lows, highs}
+use Rattle.boxes.specs.Working.Cuts.{Proper, OneInput, below, boxIn}
 use Rattle.riscu.specs.declared.Instruction.{Instruction}
 use Rattle.listing.specs.Group.{Job, Group, after, classOf}
-use Rattle.forks.specs.Turn.{classAt, EdgeAt, Cuttable}
-use Rattle.forks.specs.Table.{groupIn}
+use Rattle.forks.specs.Working.Turn.{classAt, EdgeAt, Cuttable}
+use Rattle.forks.specs.Working.Table.{groupIn}
 use Rattle.forks.proofs.Turns.{edge-along}
 use Rattle.boxes.proofs.TwoLists.{lows-in, highs-in, below-in}
-use Rattle.cuts.specs.Cutting.{probed, Starts, Turning}
-use Rattle.cuts.specs.Forking.{Parted}
-use Rattle.corners.specs.Good.{lowState}
+use Rattle.cuts.specs.Working.Cutting.{probed, Starts, Turning}
+use Rattle.cuts.specs.Working.Forking.{Parted}
+use Rattle.corners.specs.Working.Good.{lowState}
 
 module _ (j : Job) (g : Group) (i : Instruction) (x : ℕ) where
   -- the class along input x by probes, and that of the low corner

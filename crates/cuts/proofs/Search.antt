@@ -6,7 +6,7 @@ use native.Mathlib.Omega.{arith}
 use lib.Pow.{pow-add}
 use native.Mathlib.Decide.{decLe}
 use mathlib.Core.Path.{subst}
-use Rattle.cuts.specs.Cutting.{Starts, Turning}
+use Rattle.cuts.specs.Working.Cutting.{Starts, Turning}
 
 -- 71 probes: seven at the guesses and further and further away from them, and 64 that halve
 near-power : (w k : ℕ) → 1 < w → w ≤ 2 ^ k → 0 < k

@@ -3,9 +3,10 @@ use calls::questions::ENTRY_WORDS;
 ghost use mathlib.Core.Path.{_≡_};
 ghost use Prim.Native.Nat.{_+_, _<_};
 ghost use lib.ListN.{length, replicate};
-ghost use Rattle.forks.specs.Stack.{withRest, spend};
-ghost use Rattle.forks.specs.Table.{forkIn, HasEntry, OnTop};
-ghost use Rattle.cuts.specs.Entries.{forkOf, forkHeld};
+ghost use Rattle.riscu.specs.Lent.{lent, returned};
+ghost use Rattle.forks.specs.Working.Stack.{withRest, spend};
+ghost use Rattle.forks.specs.Working.Table.{forkIn, HasEntry, OnTop};
+ghost use Rattle.cuts.specs.Working.Entries.{forkOf, forkHeld};
 
 // Where the words of an entry stand, the input first.
 const LOW: usize = 1;
@@ -43,7 +44,7 @@ fn push(
     used: usize,
 )
     requires { ⌜ HasEntry (now table) n ⌝ }
-    ensures { λ _. ⌜ OnTop (forkOf input low high rest steps used) (now (table .entry)) n (now (table .exit)) ⌝ }
+    ensures { λ _. ⌜ OnTop (forkOf input low high rest steps used) (lent table) n (returned table) ⌝ }
 {
     let k = ENTRY_WORDS * n;
     table[k] = input as u64;
@@ -67,7 +68,7 @@ pub fn note(
     used: usize,
 )
     requires { ⌜ HasEntry (now table) n × (edge < high) ⌝ }
-    ensures { λ _. ⌜ OnTop (forkOf input low high (edge + 1) steps used) (now (table .entry)) n (now (table .exit)) ⌝ }
+    ensures { λ _. ⌜ OnTop (forkOf input low high (edge + 1) steps used) (lent table) n (returned table) ⌝ }
 {
     push(table, n, input, low, high, edge + 1, steps, used);
 }
@@ -75,7 +76,7 @@ pub fn note(
 // The entry of fork n.
 pub fn top(table: &[u64], n: usize) -> Entry
     requires { ⌜ HasEntry (now table) n ⌝ }
-    ensures { λ r. ⌜ forkHeld r ≡ forkIn (now (table .entry)) n ⌝ }
+    ensures { λ r. ⌜ forkHeld r ≡ forkIn (lent table) n ⌝ }
 {
     let k = ENTRY_WORDS * n;
     Entry {
@@ -92,7 +93,7 @@ pub fn top(table: &[u64], n: usize) -> Entry
 // Another rest of the latest fork.
 fn shorten(table: &mut [u64], n: usize, rest: u64)
     requires { ⌜ HasEntry (now table) n ⌝ }
-    ensures { λ _. ⌜ OnTop (withRest (forkIn (now (table .entry)) n) rest) (now (table .entry)) n (now (table .exit)) ⌝ }
+    ensures { λ _. ⌜ OnTop (withRest (forkIn (lent table) n) rest) (lent table) n (returned table) ⌝ }
 {
     let k = ENTRY_WORDS * n + REST;
     table[k] = rest;
@@ -101,7 +102,7 @@ fn shorten(table: &mut [u64], n: usize, rest: u64)
 // Its rest begins above an edge.
 pub fn rise(table: &mut [u64], n: usize, edge: u64, high: u64)
     requires { ⌜ HasEntry (now table) n × (edge < high) ⌝ }
-    ensures { λ _. ⌜ OnTop (withRest (forkIn (now (table .entry)) n) (edge + 1)) (now (table .entry)) n (now (table .exit)) ⌝ }
+    ensures { λ _. ⌜ OnTop (withRest (forkIn (lent table) n) (edge + 1)) (lent table) n (returned table) ⌝ }
 {
     shorten(table, n, edge + 1);
 }
@@ -109,7 +110,7 @@ pub fn rise(table: &mut [u64], n: usize, edge: u64, high: u64)
 // Nothing left of the latest fork.
 pub fn spend(table: &mut [u64], n: usize)
     requires { ⌜ HasEntry (now table) n ⌝ }
-    ensures { λ _. ⌜ OnTop (spend (forkIn (now (table .entry)) n)) (now (table .entry)) n (now (table .exit)) ⌝ }
+    ensures { λ _. ⌜ OnTop (spend (forkIn (lent table) n)) (lent table) n (returned table) ⌝ }
 {
     let k = ENTRY_WORDS * n + SPENT;
     table[k] = 1;
@@ -117,7 +118,7 @@ pub fn spend(table: &mut [u64], n: usize)
 
 // The whole table is zero.
 pub fn clear(table: &mut [u64])
-    ensures { λ _. ⌜ now (table .exit) ≡ replicate (length (now (table .entry))) 0 ⌝ }
+    ensures { λ _. ⌜ returned table ≡ replicate (length (lent table)) 0 ⌝ }
 {
     let mut k: usize = 0;
     while k < table.len() {

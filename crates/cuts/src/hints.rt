@@ -5,10 +5,10 @@ use listing::sorting_of;
 use riscu::Instruction;
 use riscu::Operation;
 use riscu::plain::Registers;
-use riscu::words::add;
-use riscu::words::product;
-use riscu::words::quotient;
-use riscu::words::sub;
+use words::add;
+use words::product;
+use words::quotient;
+use words::sub;
 ghost use Prim.Native.Nat.{_<_, _^_};
 
 // Where the last value of a class or the next may stand: for an operand that is a quotient or a straight line of the input, and for
@@ -183,7 +183,7 @@ fn branch_hint(a: u64, a_high: u64, b: u64, b_high: u64, lo: u64, hi: u64) -> Gu
 
 // Guesses at where the class that lo has at an instruction ends, from lo to hi: the last value that has it, or the next. Which words
 // they are, is free.
-pub fn hint(i: Instruction, low: &Registers, high: &Registers, lo: u64, hi: u64) -> Guesses
+pub(crate) fn hint(i: Instruction, low: &Registers, high: &Registers, lo: u64, hi: u64) -> Guesses
     ensures free { λ r. ⌜ (r .line < 2 ^ 64) × (r .rounded < 2 ^ 64) ⌝ }
 {
     let s = sorting_of(i);

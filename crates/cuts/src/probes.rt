@@ -10,8 +10,9 @@ ghost use mathlib.Core.Path.{_≡_};
 ghost use mathlib.Core.Bool.{true};
 ghost use Prim.Native.Nat.{_+_, _<_, _≤_, _-_, _*_};
 ghost use lib.ListN.{length};
-ghost use Rattle.riscu.specs.Parts.{state};
-ghost use Rattle.cuts.specs.Cutting.{reached, probed, Starts, Turning};
+ghost use Rattle.riscu.specs.Lent.{lent, returned};
+ghost use Rattle.riscu.specs.Working.Parts.{state};
+ghost use Rattle.cuts.specs.Working.Cutting.{reached, probed, Starts, Turning};
 
 // What the search found: the edge; whether the last probe was at it; and where the machine of that probe is, which is free if not.
 pub struct Found {
@@ -33,9 +34,9 @@ fn probe(
 ) -> At
     requires { ⌜ input < length (now choice) ⌝ }
     ensures { λ r.
-        let s = reached (now (code .entry)) (now (memory .entry)) n (now (choice .entry)) input x in
-        ⌜ state r (now (registers .exit)) (now (scratch .exit)) ≡ s ⌝ }
-    ensures { λ r. ⌜ now (choice .exit) ≡ now (choice .entry) ⌝ }
+        let s = reached (lent code) (lent memory) n (lent choice) input x in
+        ⌜ state r (returned registers) (returned scratch) ≡ s ⌝ }
+    ensures { λ r. ⌜ returned choice ≡ lent choice ⌝ }
 {
     let old = choice[input];
     choice[input] = x;
@@ -110,11 +111,11 @@ pub(crate) fn cut(
 ) -> Found
     requires { ⌜ input < length (now choice) ⌝ }
     requires { ⌜ Starts (probed (now code) (now memory) n i (now choice) input) class lo hi ⌝ }
-    ensures { λ r. ⌜ Turning (probed (now (code .entry)) (now (memory .entry)) n i (now (choice .entry)) input) class lo hi (r .edge) ⌝ }
+    ensures { λ r. ⌜ Turning (probed (lent code) (lent memory) n i (lent choice) input) class lo hi (r .edge) ⌝ }
     ensures { λ r.
-        let s = reached (now (code .entry)) (now (memory .entry)) n (now (choice .entry)) input (r .edge) in
-        ⌜ (r .there ≡ true → state (r .at) (now (registers .exit)) (now (scratch .exit)) ≡ s) ⌝ }
-    ensures { λ r. ⌜ now (choice .exit) ≡ now (choice .entry) ⌝ }
+        let s = reached (lent code) (lent memory) n (lent choice) input (r .edge) in
+        ⌜ (r .there ≡ true → state (r .at) (returned registers) (returned scratch) ≡ s) ⌝ }
+    ensures { λ r. ⌜ returned choice ≡ lent choice ⌝ }
 {
     let mut a = lo;
     let mut b = hi;

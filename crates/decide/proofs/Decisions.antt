@@ -13,32 +13,32 @@ use Rattle.riscu.specs.declared.At.{At}
 use Rattle.riscu.specs.declared.Operation.{Operation}
 use Rattle.riscu.specs.declared.Operation.the-variants.{Add, Sub, Mul, Divu, Remu, Sltu}
 use Rattle.riscu.specs.declared.Instruction.{Instruction}
-use Rattle.riscu.specs.declared.Instruction.the-variants.{Lui, Addi, Register, Ld, Sd, Beq, Jal, Jalr, Ecall}
+use Rattle.riscu.specs.declared.Instruction.the-variants.{Lui, Immediate, Register, Ld, Sd, Branch, Jal, Jalr, Ecall}
 use Rattle.riscu.specs.declared.Decoded.{Decoded}
 use Rattle.riscu.specs.declared.Decoded.the-variants.{Row, NoRow}
 use Rattle.listing.specs.Group.{Job, Group, sortingOf, classOf}
-use Rattle.listing.specs.Ending.{Point, first, operandOpen, operationPoints, operandPoints, addressPoints, points}
+use Rattle.listing.specs.Ending.{Point, _⇒_, first, operandOpen, operationPoints, operandPoints, addressPoints, points}
 use Rattle.listing.specs.Ending.{writes, needs, endAt, endBy}
 use Rattle.listing.specs.declared.Operand.{Operand}
 use Rattle.listing.specs.declared.Operand.the-variants.{InRegister, Constant}
 use Rattle.listing.specs.declared.Sorting.{Sorting}
 use Rattle.listing.specs.declared.Sorting.the-variants.{Operates, Compares, Nothing}
 use Rattle.listing.specs.declared.End.the-variants.{TraceFull}
-use Rattle.decide.specs.Corner.{machine, cornerView, verdict, sameClass, onward, unlessEnds, rowDecision, decision, endIn}
+use Rattle.decide.specs.Working.Corner.{machine, cornerView, verdict, sameClass, onward, unlessEnds, rowDecision, decision, endIn}
 use Rattle.decide.specs.declared.Limits.{Limits}
 use Rattle.decide.specs.declared.Used.{Used}
 use Rattle.decide.specs.declared.Decision.{Decision}
 use Rattle.corners.proofs.Needs.{needs-corners}
-use Rattle.corners.specs.Good.{lowState, highState, cornersOf}
+use Rattle.corners.specs.Working.Good.{lowState, highState, cornersOf}
 
 pub writes-small : (left : Bool) (i : Instruction) → writes left i ≤ 2
 unfolding writes
 writes-small left (Lui rd imm) = by-test (eqb rd 0) (λ t. rw t (omega arith)) (λ t. rw t (omega arith))
-writes-small left (Addi rd rs1 imm) = by-test (eqb rd 0) (λ t. rw t (omega arith)) (λ t. rw t (omega arith))
+writes-small left (Immediate op rd rs1 imm) = by-test (eqb rd 0) (λ t. rw t (omega arith)) (λ t. rw t (omega arith))
 writes-small left (Register op rd rs1 rs2) = by-test (eqb rd 0) (λ t. rw t (omega arith)) (λ t. rw t (omega arith))
 writes-small left (Ld rd rs1 imm) = by-test (eqb rd 0) (λ t. rw t (omega arith)) (λ t. rw t (omega arith))
 writes-small left (Sd rs1 rs2 imm) = omega arith
-writes-small left (Beq rs1 rs2 imm) = omega arith
+writes-small left (Branch on rs1 rs2 imm) = omega arith
 writes-small left (Jal rd imm) = by-test (eqb rd 0) (λ t. rw t (omega arith)) (λ t. rw t (omega arith))
 writes-small left (Jalr rd rs1 imm) = by-test (eqb rd 0) (λ t. rw t (omega arith)) (λ t. rw t (omega arith))
 writes-small left Ecall = by-test left (λ t. rw t (omega arith)) (λ t. rw t (omega arith))
@@ -85,11 +85,11 @@ module _ (j : Job) (g : Group) where
   address-by-registers : (i : Instruction) → addressPoints (cornerView low high) i ≡ addressPoints (cornersOf j g) i
   unfolding addressPoints
   address-by-registers (Lui rd imm) = refl
-  address-by-registers (Addi rd rs1 imm) = refl
+  address-by-registers (Immediate op rd rs1 imm) = refl
   address-by-registers (Register op rd rs1 rs2) = refl
   address-by-registers (Ld rd rs1 imm) = refl
   address-by-registers (Sd rs1 rs2 imm) = refl
-  address-by-registers (Beq rs1 rs2 imm) = refl
+  address-by-registers (Branch on rs1 rs2 imm) = refl
   address-by-registers (Jal rd imm) = refl
   address-by-registers (Jalr rd rs1 imm) = refl
   address-by-registers Ecall = refl
@@ -104,7 +104,7 @@ module _ (j : Job) (g : Group) where
   -- point 10, and nothing after it
   onward-ends : (i : Instruction)
       → endIn (onward (j .entries - g .used) left (sameClass i low high) i)
-      ≡ first (record { applies = ltb (j .entries - g .used) (needs g (cornersOf j g) i); end = TraceFull } ∷ [])
+      ≡ first ((ltb (j .entries - g .used) (needs g (cornersOf j g) i) ⇒ TraceFull) ∷ [])
   unfolding endIn onward first
   onward-ends i =
       let n : writes left i + cond (sameClass i low high) 0 1 ≡ needs g (cornersOf j g) i =
@@ -119,7 +119,7 @@ module _ (j : Job) (g : Group) where
   unfolding endIn rowDecision endAt
   row-ends NoRow = refl
   row-ends (Row i) =
-      let q : Point = record { applies = ltb (j .entries - g .used) (needs g (cornersOf j g) i); end = TraceFull } in
+      let q : Point = ltb (j .entries - g .used) (needs g (cornersOf j g) i) ⇒ TraceFull in
       added (onward (j .entries - g .used) left (sameClass i low high) i) q (points (cornerView low high) i) (onward-ends i)
       ∙ ap (λ (l : List Point). first (l ++ (q ∷ []))) (points-by-registers i)
 

@@ -18,7 +18,7 @@ use Rattle.riscu.specs.declared.Decoded.the-variants.{Row, NoRow}
 use Rattle.listing.specs.Group.{Job, Group, classOf}
 use Rattle.listing.specs.Ending.{points, writes, endBy}
 use Rattle.listing.specs.declared.End.{End}
-use Rattle.decide.specs.Corner.{machine, cornerView, verdict, sameClass, onward, unlessEnds, rowDecision, decision, endIn}
+use Rattle.decide.specs.Working.Corner.{machine, cornerView, verdict, sameClass, onward, unlessEnds, rowDecision, decision, endIn}
 use Rattle.decide.specs.declared.Limits.{Limits}
 use Rattle.decide.specs.declared.Used.{Used}
 use Rattle.decide.specs.declared.Verdict.{Verdict}
@@ -26,7 +26,7 @@ use Rattle.decide.specs.declared.Verdict.the-variants.{Ends, Passes}
 use Rattle.decide.specs.declared.Decision.{Decision}
 use Rattle.decide.specs.declared.Decision.the-variants.{Ended, Steps, Forks}
 use Rattle.decide.proofs.Decisions.{Stands, decision-ends, class-by-registers}
-use Rattle.corners.specs.Good.{lowState, highState, cornersOf}
+use Rattle.corners.specs.Working.Good.{lowState, highState, cornersOf}
 
 module _ (code : List ℕ) (pc : ℕ) (l h : List ℕ) where
   -- the row that is at pc, and whether the class is the same at both corners

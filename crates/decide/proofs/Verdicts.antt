@@ -8,22 +8,26 @@ use lib.Dec.{ltb, eqb}
 use lib.IntN.{ℤ}
 use Rattle.boxes.proofs.Lists.{by-test}
 use Rattle.corners.proofs.Operations.{ltb-same}
-use Rattle.riscu.specs.declared.Instruction.the-variants.{Addi}
-use Rattle.listing.specs.Group.{sortingOf}
-use Rattle.listing.specs.Ending.{Point, _⇒_, callOpen, badCall, badRead, operationPoints, operandPoints, addressPoints, points}
+use Rattle.riscu.specs.declared.Condition.{Condition}
+use Rattle.riscu.specs.declared.Condition.the-variants.{Equal}
+use Rattle.riscu.specs.declared.Instruction.the-variants.{Branch}
+use Rattle.listing.specs.Group.{View, sortingOf}
+use Rattle.listing.specs.Ending.{Point, _⇒_, callOpen, badCall, badRead, operandPoints, addressPoints, points}
+use Rattle.listing.specs.declared.Operand.the-variants.{InRegister}
+use Rattle.listing.specs.declared.Sorting.the-variants.{Compares}
 use Rattle.listing.specs.declared.Reason.the-variants.{CallOpen}
 use Rattle.listing.specs.declared.End.{End}
 use Rattle.listing.specs.declared.End.the-variants.{Exit, BadAddress, BadCall, NotFollowed}
-use Rattle.decide.specs.Corner.{cornerView, verdict}
+use Rattle.decide.specs.Working.Corner.{cornerView, verdict}
 use Rattle.decide.specs.declared.Verdict.{Verdict}
 use Rattle.decide.specs.declared.Verdict.the-variants.{Ends, Passes}
 
-pub stops : {e : End} {t : Bool} (ps : List Point) → t ≡ true → Ends e ≡ verdict (record { applies = t; end = e } ∷ ps)
+pub stops : {e : End} {t : Bool} (ps : List Point) → t ≡ true → Ends e ≡ verdict ((t ⇒ e) ∷ ps)
 unfolding verdict
 stops ps h = rw h
 
 pub goes : {t : Bool} (e : End) (ps : List Point) {r : Verdict} → t ≡ false → r ≡ verdict ps
-    → r ≡ verdict (record { applies = t; end = e } ∷ ps)
+    → r ≡ verdict ((t ⇒ e) ∷ ps)
 unfolding verdict
 goes e ps h d = rw h d
 
@@ -50,10 +54,11 @@ ends-before ps qs {e} p d = d ∙ sym (ends-first ps qs e (sym p ∙ d))
 pub passes-before : (ps qs : List Point) {v r : Verdict} → v ≡ verdict ps → v ≡ Passes → r ≡ verdict qs → r ≡ verdict (ps ++ qs)
 passes-before ps qs p d k = k ∙ sym (passes-first ps qs (sym p ∙ d))
 
--- no point ends ADDI: its second operand is never open
-pub addi-passes : (l h : List ℕ) (rd rs1 : ℕ) (imm : ℤ) → verdict (points (cornerView l h) (Addi rd rs1 imm)) ≡ Passes
-unfolding points addressPoints sortingOf operandPoints operationPoints verdict
-addi-passes l h rd rs1 imm = by-test (eqb rd 0) (λ t. rw t) (λ t. rw t)
+-- every branch ends as a comparison of its registers does
+pub branch-points : (v : View) (on : Condition) (rs1 rs2 : ℕ) (imm : ℤ)
+    → points v (Branch on rs1 rs2 imm) ≡ operandPoints v (Compares (InRegister rs1) (InRegister rs2))
+unfolding points addressPoints sortingOf
+branch-points v Equal rs1 rs2 imm = refl
 
 -- the points of a call whose number is k
 abbrev pub callPoints : List ℕ → List ℕ → ℕ → List Point

@@ -1,2 +1,2 @@
--- What the code's contracts say of two corners' registers: the view of a group, verdicts on points, the whole decision.
-pub mod Corner
+-- No definition here is to be believed.
+pub mod Working

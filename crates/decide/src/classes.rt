@@ -3,23 +3,22 @@ use listing::Operand;
 use listing::Sorting;
 use listing::operand_value;
 use listing::sorting_of;
+use riscu::Condition;
 use riscu::Instruction;
 use riscu::Operation;
 use riscu::plain::Registers;
 use riscu::plain::register;
-use riscu::words;
-use riscu::words::widen;
+use words::widen;
 ghost use mathlib.Core.Path.{_≡_};
 ghost use mathlib.Core.Bool.{cond};
-ghost use Prim.Native.Nat.{_+_, _/_, min};
+ghost use Prim.Native.Nat.{_+_, _/_, min, max};
 ghost use lib.Dec.{eqb};
-ghost use Rattle.riscu.specs.Word.{size};
-ghost use Rattle.riscu.specs.declared.Instruction.the-variants.{Addi, Register};
+ghost use Rattle.words.specs.Word.{size};
+ghost use Rattle.riscu.specs.declared.Instruction.the-variants.{Immediate, Register};
 ghost use Rattle.listing.specs.declared.Operand.the-variants.{InRegister};
-ghost use Rattle.listing.specs.declared.Sorting.the-variants.{Compares};
-ghost use Rattle.listing.specs.Group.{sortOf, comparison, operand, classBy, classOf};
+ghost use Rattle.listing.specs.Group.{sortOf, comparison, branchSorting, operand, classBy, classOf};
 ghost use Rattle.listing.specs.Ending.{badAddress};
-ghost use Rattle.decide.specs.Corner.{machine};
+ghost use Rattle.decide.specs.Working.Corner.{machine};
 
 pub(crate) fn bad_address(a: u64) -> bool
     ensures { λ r. ⌜ r ≡ badAddress a ⌝ }
@@ -33,11 +32,17 @@ pub fn least(a: u64, b: u64) -> u64
     if a < b { a } else { b }
 }
 
+pub fn greatest(a: u64, b: u64) -> u64
+    ensures { λ r. ⌜ r ≡ max a b ⌝ }
+{
+    if a < b { b } else { a }
+}
+
 // The carry of a sum.
 fn carry(a: u64, b: u64) -> u64
     ensures { λ r. ⌜ r ≡ (a + b) / size ⌝ }
 {
-    if 18446744073709551615 - b < a { 1 } else { 0 }
+    if words::MAX - b < a { 1 } else { 0 }
 }
 
 fn sort_of(op: Operation, a: u64, b: u64) -> u64
@@ -77,12 +82,12 @@ fn sorted(op: Operation, rd: usize, a: u64, b: u64) -> u64
 }
 
 // The class at each instruction that sorts.
-pub fn addi_class(registers: &Registers, rd: usize, rs1: usize, imm: i64) -> u64
-    ensures { λ r. ⌜ r ≡ classOf (Addi rd rs1 imm) (machine (now (registers .entry))) ⌝ }
+pub fn immediate_class(registers: &Registers, op: Operation, rd: usize, rs1: usize, imm: i64) -> u64
+    ensures { λ r. ⌜ r ≡ classOf (Immediate op rd rs1 imm) (machine (now (registers .entry))) ⌝ }
 {
     let a = register(registers, rs1);
     let b = widen(imm);
-    sorted(Operation::Add, rd, a, b)
+    sorted(op, rd, a, b)
 }
 
 pub fn operation_class(
@@ -99,12 +104,14 @@ pub fn operation_class(
     sorted(op, rd, a, b)
 }
 
-pub fn branch_class(registers: &Registers, rs1: usize, rs2: usize) -> u64
-    ensures { λ r. ⌜ r ≡ classBy (Compares (InRegister rs1) (InRegister rs2)) (now (registers .entry)) ⌝ }
+pub fn branch_class(registers: &Registers, on: Condition, rs1: usize, rs2: usize) -> u64
+    ensures { λ r. ⌜ r ≡ classBy (branchSorting on (InRegister rs1) (InRegister rs2)) (now (registers .entry)) ⌝ }
 {
     let a = register(registers, rs1);
     let b = register(registers, rs2);
-    comparison(a, b)
+    match on {
+        Condition::Equal => comparison(a, b),
+    }
 }
 
 // What an operation sorts two operands by.

@@ -18,7 +18,7 @@ ghost use lib.Dec.{eqb};
 ghost use Rattle.riscu.specs.Decode.{decodeOf};
 ghost use Rattle.riscu.specs.declared.Decoded.the-variants.{Row};
 ghost use Rattle.listing.specs.Ending.{writes};
-ghost use Rattle.decide.specs.Corner.{sameClass, onward, rowDecision, decision};
+ghost use Rattle.decide.specs.Working.Corner.{sameClass, onward, rowDecision, decision};
 
 pub fn one_unless_zero(rd: usize) -> usize
     ensures { λ r. ⌜ r ≡ cond (eqb rd 0) 0 1 ⌝ }
@@ -38,11 +38,11 @@ pub fn writes(left: bool, i: Instruction) -> usize
 {
     match i {
         Instruction::Lui { rd, imm } => one_unless_zero(rd),
-        Instruction::Addi { rd, rs1, imm } => one_unless_zero(rd),
+        Instruction::Immediate { op, rd, rs1, imm } => one_unless_zero(rd),
         Instruction::Register { op, rd, rs1, rs2 } => one_unless_zero(rd),
         Instruction::Ld { rd, rs1, imm } => one_unless_zero(rd),
         Instruction::Sd { rs1, rs2, imm } => 1,
-        Instruction::Beq { rs1, rs2, imm } => 0,
+        Instruction::Branch { on, rs1, rs2, imm } => 0,
         Instruction::Jal { rd, imm } => one_unless_zero(rd),
         Instruction::Jalr { rd, rs1, imm } => one_unless_zero(rd),
         Instruction::Ecall => read_writes(left),

@@ -13,17 +13,18 @@ use riscu::Operation;
 use riscu::plain::Registers;
 use riscu::plain::offset;
 use riscu::plain::register;
+use words::widen;
 ghost use mathlib.Core.Path.{_≡_};
 ghost use Prim.Native.Nat.{_+_, min, max};
 ghost use lib.Dec.{ltb};
 ghost use lib.IntN.{pos};
 ghost use Rattle.riscu.specs.declared.Operation.the-variants.{Add, Mul, Divu, Remu};
-ghost use Rattle.riscu.specs.declared.Instruction.the-variants.{Register, Ld, Jalr, Ecall};
+ghost use Rattle.riscu.specs.declared.Instruction.the-variants.{Immediate, Register, Ld, Jalr, Ecall};
 ghost use Rattle.listing.specs.declared.Operand.the-variants.{InRegister};
 ghost use Rattle.listing.specs.declared.Sorting.the-variants.{Compares};
 ghost use Rattle.listing.specs.Ending.{openAt, valueAt, badAccess, callOpen, badCall, badRead, sameRegister, operandOpen};
 ghost use Rattle.listing.specs.Ending.{bothOpen, twoOpen, farApart, operationPoints, operandPoints, addressPoints, points};
-ghost use Rattle.decide.specs.Corner.{cornerView, verdict};
+ghost use Rattle.decide.specs.Working.Corner.{cornerView, verdict};
 
 // Whether a register differs at the corners.
 fn open_at(low: &Registers, high: &Registers, r: usize) -> bool
@@ -126,11 +127,11 @@ fn address_points(i: Instruction, low: &Registers, high: &Registers) -> Verdict
 {
     match i {
         Instruction::Lui { rd, imm } => Verdict::Passes,
-        Instruction::Addi { rd, rs1, imm } => Verdict::Passes,
+        Instruction::Immediate { op, rd, rs1, imm } => Verdict::Passes,
         Instruction::Register { op, rd, rs1, rs2 } => Verdict::Passes,
         Instruction::Ld { rd, rs1, imm } => access_points(low, high, rs1, imm),
         Instruction::Sd { rs1, rs2, imm } => access_points(low, high, rs1, imm),
-        Instruction::Beq { rs1, rs2, imm } => Verdict::Passes,
+        Instruction::Branch { on, rs1, rs2, imm } => Verdict::Passes,
         Instruction::Jal { rd, imm } => Verdict::Passes,
         Instruction::Jalr { rd, rs1, imm } => base_points(low, high, rs1),
         Instruction::Ecall => call_points(low, high),
@@ -284,7 +285,25 @@ fn operand_points(s: Sorting, low: &Registers, high: &Registers) -> Verdict
     }
 }
 
-// The points of an operation on two registers, and of a branch.
+// The points of an operation with an immediate, of one on two registers, and of a branch.
+pub fn immediate_points(
+    op: Operation,
+    rd: usize,
+    low: &Registers,
+    high: &Registers,
+    a: usize,
+    imm: i64,
+) -> Verdict
+    ensures { λ r. ⌜ r ≡ verdict (points (cornerView (now (low .entry)) (now (high .entry))) (Immediate op rd a imm)) ⌝ }
+{
+    if rd == 0 {
+        Verdict::Passes
+    } else {
+        let n = widen(imm);
+        operation_points(op, low, high, Operand::InRegister(a), Operand::Constant(n))
+    }
+}
+
 pub fn register_points(
     op: Operation,
     rd: usize,

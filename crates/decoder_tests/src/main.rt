@@ -1,14 +1,15 @@
 // Decodes words that the RISC-V assembler made, and compares each with the operands it was made of.
 // Standard input has a word to a line; host/vectors.py makes them, and says what the fields are.
 // Prints each line that differs, and how many words there are.
+use riscu::Condition;
 use riscu::Decoded;
 use riscu::Instruction;
 use riscu::Operation;
 use riscu::decoder::decode;
-use riscu::words::widen;
 use vectors::differs;
 use vectors::line_end;
 use vectors::number_at;
+use words::widen;
 
 // The row of document 01's table, from 0, or 14 for none; a field that the row lacks is 0.
 struct Parts {
@@ -30,6 +31,20 @@ fn operation_row(op: Operation) -> u64 {
     }
 }
 
+// The table has ADDI alone of the operations with an immediate, and BEQ alone of the branches.
+fn immediate_row(op: Operation) -> u64 {
+    match op {
+        Operation::Add => 1,
+        _ => 14,
+    }
+}
+
+fn branch_row(on: Condition) -> u64 {
+    match on {
+        Condition::Equal => 10,
+    }
+}
+
 fn parts_of(row: u64, rd: usize, rs1: usize, rs2: usize, imm: i64) -> Parts {
     Parts {
         row,
@@ -43,11 +58,11 @@ fn parts_of(row: u64, rd: usize, rs1: usize, rs2: usize, imm: i64) -> Parts {
 fn instruction_parts(i: Instruction) -> Parts {
     match i {
         Instruction::Lui { rd, imm } => parts_of(0, rd, 0, 0, imm),
-        Instruction::Addi { rd, rs1, imm } => parts_of(1, rd, rs1, 0, imm),
+        Instruction::Immediate { op, rd, rs1, imm } => parts_of(immediate_row(op), rd, rs1, 0, imm),
         Instruction::Register { op, rd, rs1, rs2 } => parts_of(operation_row(op), rd, rs1, rs2, 0),
         Instruction::Ld { rd, rs1, imm } => parts_of(8, rd, rs1, 0, imm),
         Instruction::Sd { rs1, rs2, imm } => parts_of(9, 0, rs1, rs2, imm),
-        Instruction::Beq { rs1, rs2, imm } => parts_of(10, 0, rs1, rs2, imm),
+        Instruction::Branch { on, rs1, rs2, imm } => parts_of(branch_row(on), 0, rs1, rs2, imm),
         Instruction::Jal { rd, imm } => parts_of(11, rd, 0, 0, imm),
         Instruction::Jalr { rd, rs1, imm } => parts_of(12, rd, rs1, 0, imm),
         Instruction::Ecall => parts_of(13, 0, 0, 0, 0),

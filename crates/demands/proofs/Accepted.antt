@@ -4,26 +4,25 @@ use mathlib.Core.Path.{_≡_, refl, sym, _∙_, subst}
 use mathlib.Core.Bool.{Bool, true, _&&_, and-eq-true-iff}
 use mathlib.Core.List.{List, [], _∷_}
 use mathlib.Core.Option.{none}
-use Prim.Native.Nat.{ℕ, _*_, _%_, _^_, _≤_}
+use Prim.Native.Nat.{ℕ, _*_, _/_, _%_, _^_, _≤_}
 use native.Mathlib.Omega.{arith}
 use lib.Dec.{leb, eqb}
 use lib.ListN.{length}
 use borrow.Author.Tests.{leb-true, eqb-true}
-use Rattle.boxes.specs.Boxes.{Interval, Box, Proper, from, lows, _∈_}
+use Rattle.boxes.specs.Boxes.{Interval, Box, from, lows, _∈_}
+use Rattle.boxes.specs.Working.Cuts.{Proper}
 use Rattle.boxes.proofs.Choices.{inside-length}
 use Rattle.listing.specs.Group.{Job}
 use Rattle.listing.specs.Listing.{Path, pathOf, listing}
 use Rattle.paths.proofs.Paths.{listing-ended}
 use Rattle.riscu.specs.Limits.{codeWords, memoryWords}
 use Rattle.blocks.specs.Record.{mostInputs}
-use Rattle.calls.specs.Call.{Call, inputsOf, Below, boxOf, inOrder, asks, questions, refusalOf, jobOf}
-use Rattle.calls.specs.declared.Refusal.{Refusal}
-use Rattle.calls.specs.declared.Refusal.the-variants.{Code, Inputs, Order, Memory}
-use Rattle.calls.proofs.Asked.{all-yes}
+use Rattle.calls.specs.Questions.{inOrder}
+use Rattle.calls.specs.Call.{Call, inputsOf, Below, boxOf, refusalOf, jobOf}
+use Rattle.calls.proofs.Asked.{CallPassed, call-passed}
 use Rattle.calls.proofs.Pairs.{pairs, sides-below}
-use Rattle.calls.proofs.Numbers.{among-questions}
 use Rattle.demands.proofs.Faithful.{listing-faithful}
-use Rattle.corners.specs.Good.{Sound}
+use Rattle.corners.specs.Working.Good.{Sound}
 
 pub both : (t u : Bool) → t && u ≡ true → (t ≡ true) × (u ≡ true)
 both t u = and-eq-true-iff t u .0
@@ -34,14 +33,13 @@ in-order-proper [] e = tt
 in-order-proper (v ∷ b) e = let (h, r) = both (leb (v .low) (v .high)) (inOrder b) e in (leb-true (v .low) (v .high) h, in-order-proper b r)
 
 module _ (memory : List ℕ) (words : ℕ) (c : Call) (e : refusalOf memory words c ≡ none) where
-  pub accepted-yes : (q : Refusal) → asks memory words c q ≡ true
-  accepted-yes q = all-yes (asks memory words c) questions .0 e q (among-questions q)
+  passed : CallPassed memory words c
+  passed = call-passed memory words c e
 
-  whole-pairs : (2 * length (boxOf (c .intervals)) ≡ length (c .intervals)) × (length (c .intervals) ≤ 2 * mostInputs)
-  unfolding asks
+  whole-pairs : (2 * length (boxOf (c .intervals)) ≡ length (c .intervals)) × (length (c .intervals) / 2 ≤ mostInputs)
   whole-pairs =
-      let (even, few) = both (eqb (length (c .intervals) % 2) 0) _ (accepted-yes Inputs) in
-      (pairs (c .intervals) (eqb-true _ _ even), leb-true (length (c .intervals)) (2 * mostInputs) few)
+      let (even, few) = both (eqb (length (c .intervals) % 2) 0) _ (passed .intervals) in
+      (pairs (c .intervals) (eqb-true _ _ even), leb-true (length (c .intervals) / 2) mostInputs few)
 
   pub job-inputs : length (jobOf memory words c .box) ≤ mostInputs
   unfolding jobOf
@@ -52,12 +50,12 @@ module _ (memory : List ℕ) (words : ℕ) (c : Call) (e : refusalOf memory word
   inputs-counted = omega (arith, whole-pairs .0)
 
   pub accepted-sound : Below (2 ^ 64) memory → Below (2 ^ 64) (c .intervals) → Sound (jobOf memory words c) (jobOf memory words c .box)
-  unfolding jobOf asks
+  unfolding jobOf
   accepted-sound m t =
       record {
-        code = leb-true (length (c .code)) codeWords (both (leb 1 (length (c .code))) _ (accepted-yes Code) .1);
-        memory = record { count = eqb-true (length memory) memoryWords (accepted-yes Memory); words = m };
-        proper = in-order-proper (boxOf (c .intervals)) (accepted-yes Order);
+        code = leb-true (length (c .code)) codeWords (both (leb 1 (length (c .code))) _ (passed .code) .1);
+        memory = record { count = eqb-true (length memory) memoryWords (passed .memory); words = m };
+        proper = in-order-proper (boxOf (c .intervals)) (passed .order);
         inputs = sides-below (2 ^ 64) (λ (i : Interval). i .high) (λ l h a b. b) (omega arith) (c .intervals) t;
       }
 

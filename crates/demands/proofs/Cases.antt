@@ -17,7 +17,9 @@ use Rattle.corners.proofs.Cases.{line, Case, jobOf as caseJob, jobA, table, cas
 use Rattle.riscu.specs.Limits.{memoryWords}
 use Rattle.blocks.specs.Record.{recordBytes}
 use Rattle.blocks.specs.Report.{recordsIn}
-use Rattle.calls.specs.Call.{Call, callOf, boxOf, inOrder, asks, firstNo, refusalOf, jobOf, page, replyBy, replyTo}
+use Rattle.listing.specs.First.{first}
+use Rattle.calls.specs.Questions.{inOrder}
+use Rattle.calls.specs.Call.{Call, callOf, boxOf, questions, refusalOf, jobOf, page, replyBy, replyTo}
 use Rattle.calls.specs.declared.Refusal.{Refusal}
 use Rattle.calls.specs.declared.Answer.{Answer}
 use Rattle.calls.specs.declared.Answer.the-variants.{Page}
@@ -81,7 +83,7 @@ abbrev wanted : (ℕ × Case) → Ready
 wanted x = record { refusal = none; fits = true }
 
 all-ready : map ready table ≡ map wanted table
-unfolding firstNo asks inOrder boxOf flatMap
+unfolding first questions inOrder boxOf flatMap
 all-ready = refl
 
 pub cases-answered : (x : ℕ × Case) → x ∈ table → Answered (x .1)
@@ -109,7 +111,7 @@ answerA f = replyTo memory words (call jobA 1 f) .answer
 
 all-pass : (refusalOf memory words (call jobA 1 0) ≡ none) × (refusalOf memory words (call jobA 1 1) ≡ none)
     × (refusalOf memory words (call jobA 1 2) ≡ none)
-unfolding firstNo asks inOrder boxOf flatMap
+unfolding first questions inOrder boxOf flatMap
 all-pass = (refl, refl, refl)
 
 pub job-a-pages : (answerA 0 ≡ Page 1 true) × (answerA 1 ≡ Page 1 false) × (answerA 2 ≡ Page 0 false)

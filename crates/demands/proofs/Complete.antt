@@ -17,7 +17,7 @@ use Rattle.paths.proofs.Follow.{Led, listing-led, follow-stays, follow-inside}
 use Rattle.paths.proofs.Order.{listing-ordered, before-one-way}
 use Rattle.calls.specs.Complete.{IsPath, Complete}
 use Rattle.demands.proofs.Faithful.{listing-faithful}
-use Rattle.corners.specs.Good.{Sound}
+use Rattle.corners.specs.Working.Good.{Sound}
 
 abbrev pathBox : Path → Box
 pathBox p = p .box

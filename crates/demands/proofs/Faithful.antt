@@ -6,7 +6,8 @@ use mathlib.Core.Option.{some}
 use Prim.Native.Nat.{ℕ, _<_}
 use native.Mathlib.Nat.{zero-add}
 use native.Mathlib.Omega.{arith}
-use Rattle.boxes.specs.Boxes.{Choice, Interval, _⋯_, Proper, lows, Inside, Within, _∈_}
+use Rattle.boxes.specs.Boxes.{Choice, Interval, _⋯_, lows, Inside, Within, _∈_}
+use Rattle.boxes.specs.Working.Cuts.{Proper}
 use Rattle.boxes.proofs.Lists.{from-at}
 use Rattle.boxes.proofs.Choices.{lows-inside, highs-inside}
 use Rattle.boxes.proofs.OneInput.{low-le, le-high, low-reached, high-reached, at-corners}
@@ -24,7 +25,7 @@ use Rattle.paths.proofs.Paths.{listing-divides, listing-ended}
 use Rattle.paths.proofs.Follow.{listing-led, follow-stays}
 use Rattle.blocks.specs.Record.{registerOf, exitOf}
 use Rattle.calls.specs.Faithful.{Between, Reached, AtEnds, Runs, EndsAs, Faithful}
-use Rattle.corners.specs.Good.{Sound, Good}
+use Rattle.corners.specs.Working.Good.{Sound, Good}
 
 exit-is : (p : Path) → p .end ≡ Exit → exitOf p ≡ registerOf p 10
 exit-is p e = rw e

@@ -18,7 +18,7 @@ use Rattle.blocks.proofs.Reading.{records-append, records-length}
 use Rattle.calls.specs.Call.{Call, inputsOf, written, more, jobOf, page, replyBy}
 use Rattle.calls.specs.Engine.{Exchange}
 use Rattle.calls.specs.Together.{SameJob, Pages, last, next, bytesWritten}
-use Rattle.corners.specs.Good.{Sound}
+use Rattle.corners.specs.Working.Good.{Sound}
 use Rattle.demands.proofs.Accepted.{accepted-sound, job-inputs, inputs-counted}
 use Rattle.demands.proofs.Histories.{Fair}
 

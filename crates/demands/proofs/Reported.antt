@@ -15,14 +15,14 @@ use Rattle.listing.specs.Listing.{Path, listing}
 use Rattle.blocks.specs.Record.{mostInputs, recordBytes, recordOf, records}
 use Rattle.blocks.specs.Report.{recordsIn, recordAt}
 use Rattle.blocks.proofs.Reading.{Fits, records-length, records-at, record-tells}
-use Rattle.calls.specs.Call.{Call, inputsOf, Below, Typed, written, more, asks, refusalOf, jobOf, page, replyBy, replyTo}
+use Rattle.calls.specs.Call.{Call, inputsOf, Below, Typed, written, more, refusalOf, jobOf, page, replyBy, replyTo}
 use Rattle.calls.specs.Limits.{firstEnd}
 use Rattle.calls.specs.Reported.{Told, Reported}
-use Rattle.calls.specs.declared.Refusal.the-variants.{First}
-use Rattle.demands.proofs.Accepted.{accepted-yes, accepted-sound, job-inputs, inputs-counted, path-inputs, paths-fit}
+use Rattle.calls.proofs.Asked.{call-passed}
+use Rattle.demands.proofs.Accepted.{accepted-sound, job-inputs, inputs-counted, path-inputs, paths-fit}
 use Rattle.demands.proofs.Faithful.{listing-faithful}
 use Rattle.demands.proofs.Words.{path-fits}
-use Rattle.corners.specs.Good.{Sound}
+use Rattle.corners.specs.Working.Good.{Sound}
 
 module _ (memory : List ℕ) (words : ℕ) (c : Call) (bounded : Below (2 ^ 64) memory) (typed : Typed c) (e : refusalOf memory words c ≡ none) where
   abbrev j : Job
@@ -54,9 +54,8 @@ module _ (memory : List ℕ) (words : ℕ) (c : Call) (bounded : Below (2 ^ 64) 
 
   -- the numbers of its paths are words, and so is all that their records hold
   pub page-few : c .first + length ps ≤ 2 ^ 64
-  unfolding asks
   page-few =
-      let first = ltb-true (c .first) firstEnd (accepted-yes memory words c e First) in
+      let first = ltb-true (c .first) firstEnd (call-passed memory words c e .first) in
       omega (arith, page-length, typed .bytes)
 
   pub page-fits : (p : Path) → p ∈ ps → (k : ℕ) → k < 2 ^ 64 → Fits k p

@@ -19,13 +19,14 @@ use Rattle.listing.specs.declared.End.{End}
 use Rattle.listing.specs.declared.End.the-variants.{Exit, BadPc, BadWord, BadAddress, BadCall, StepLimit, NotFollowed, TraceFull}
 use Rattle.corners.proofs.Uniform.{whole-after}
 use Rattle.corners.proofs.Enough.{listing-steps}
+use Rattle.blocks.specs.Layout.{firstPlaces}
 use Rattle.blocks.specs.Record.{mostInputs, padded, registerOf, exitWord, ends, firstWords, secondWords}
 use Rattle.blocks.proofs.Bytes.{getD-padded}
 use Rattle.blocks.proofs.Reading.{Words, Fits}
 use Rattle.calls.specs.Faithful.{Faithful}
 use Rattle.demands.proofs.Faithful.{listing-faithful}
 use Rattle.demands.proofs.Accepted.{path-inputs, path-registers}
-use Rattle.corners.specs.Good.{Sound}
+use Rattle.corners.specs.Working.Good.{Sound}
 
 -- small numbers
 
@@ -85,7 +86,7 @@ append-words (x ∷ xs) ys h g (suc k) = append-words xs ys (λ i. h (suc i)) g 
 infixr 40 _padded-then_
 _padded-then_ : {ws l : List ℕ} → AllWords ws → AllWords l → AllWords (padded ws ++ l)
 _padded-then_ {ws} {l} h g =
-    record { words = append-words (padded ws) l (λ k. rw (getD-padded ws (mostInputs - length ws) k) (h .words k)) (g .words) }
+    record { words = append-words (padded ws) l (λ k. rw (getD-padded ws (firstPlaces - length ws) k) (h .words k)) (g .words) }
 
 words-ends : (vs : List Interval) → ((i : ℕ) → Small (getD vs i (0 ⋯ 0))) → AllWords (ends vs)
 unfolding flatMap

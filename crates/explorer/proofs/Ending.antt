@@ -1,7 +1,6 @@
 -- A turn that ends the group at hand: its path is the next of the listing.
 -- Assumes nothing.
 use mathlib.Core.Path.{_≡_, refl, sym, ap, _∙_}
-use mathlib.Core.Bool.{true}
 use mathlib.Core.List.{List, [], _∷_, _++_}
 use Prim.Native.Nat.{ℕ, _+_, _<_}
 use native.Mathlib.Omega.{arith}
@@ -10,23 +9,24 @@ use lib.Seq.{take-at}
 use Rattle.listing.specs.Group.{Job}
 use Rattle.listing.specs.Listing.{Path, pathOf, listing}
 use Rattle.listing.specs.declared.End.{End}
-use Rattle.forks.specs.Turn.{running, resting, Turn, ending, stateOf}
+use Rattle.forks.specs.Working.Turn.{running, resting, Turn, ending, stateOf}
 use Rattle.forks.proofs.Positions.{reached-moves, paths-first}
 use Rattle.decide.proofs.Says.{says-ended}
 use Rattle.decide.specs.declared.Limits.{Limits}
 use Rattle.decide.specs.declared.Decision.the-variants.{Ended}
-use Rattle.explorer.specs.Held.{Lists, groupOf, forksOf, decisionOn, Held, ended, listed, work}
+use Rattle.explorer.specs.Working.Held.{Lists, groupOf, forksOf, decisionOn, atGroup, Held, ended, listed, work}
+use Rattle.explorer.specs.declared.Phase.the-variants.{AtGroup}
 use Rattle.explorer.specs.declared.Standing.{Standing}
 use Rattle.boxes.proofs.Lists.{not-both}
 use Rattle.explorer.proofs.Stands.{stands, turned, lighter, work-running, work-resting}
-use Rattle.corners.specs.Good.{cornersOf}
+use Rattle.corners.specs.Working.Good.{cornersOf}
 
 -- the paths of an engine between two groups are the first of the listing
 pub first-paths : (j : Job) {ps : List Path} (n : ℕ) → n ≡ length ps → (rest : List Path) × (listing j ≡ ps ++ rest)
     → take n (listing j) ≡ ps
 first-paths j {ps} n e (rest, d) = ap (take n) d ∙ take-at ps rest n (sym e)
 
-module _ {j : Job} {m : Limits} {x : Lists} {s : Standing} (h : Held j m (listed j s) x s) (e : s .running ≡ true) {end : End}
+module _ {j : Job} {m : Limits} {x : Lists} {s : Standing} (h : Held j m (listed j s) x s) (e : s .phase ≡ AtGroup) {end : End}
     (d : decisionOn (j .code) m x s ≡ Ended end) where
   -- the path that ends here
   abbrev pub here : Path
@@ -48,10 +48,10 @@ module _ {j : Job} {m : Limits} {x : Lists} {s : Standing} (h : Held j m (listed
   held-ended = rw listed-ended (record {
     fits = h .fits;
     reached = turned h e turn;
-    corners = not-both refl;
+    corners = λ z. not-both refl (ap atGroup z);
     count = more-paths;
   })
 
-  pub work-ended : s .going ≡ true → work j x (ended s) < work j x s
+  pub work-ended : work j x (ended s) < work j x s
   unfolding stateOf
-  work-ended g = omega (arith, lighter h e turn, work-running j x s g e, work-resting j x (ended s) refl refl)
+  work-ended = omega (arith, lighter h e turn, work-running j x s e, work-resting j x (ended s) refl)

@@ -1,7 +1,6 @@
 -- A turn that forks.
 -- Assumes nothing.
 use mathlib.Core.Path.{_≡_, refl, sym, ap, _∙_}
-use mathlib.Core.Bool.{true}
 use mathlib.Core.List.{List, _∷_}
 use mathlib.Core.Option.{none}
 use Prim.Native.Nat.{ℕ, suc, _+_, _*_, _≤_, _<_}
@@ -10,7 +9,7 @@ use native.Mathlib.Numerals.{add-one}
 use lib.Dec.{ltb}
 use lib.ListN.{length, getD}
 use Rattle.boxes.specs.Boxes.{Choice, Within}
-use Rattle.boxes.specs.Cuts.{OneInput, below, boxIn}
+use Rattle.boxes.specs.Working.Cuts.{OneInput, below, boxIn}
 use Rattle.boxes.proofs.Cut.{below-within}
 use Rattle.boxes.proofs.OneInput.{one-input-convex}
 use Rattle.boxes.proofs.Pieces.{edge-exists}
@@ -20,35 +19,36 @@ use Rattle.riscu.specs.declared.Decoded.the-variants.{Row}
 use Rattle.listing.specs.Group.{Job, Group, after, classOf}
 use Rattle.listing.specs.Ending.{writes, endBy}
 use Rattle.listing.specs.Listing.{later}
-use Rattle.forks.specs.Stack.{Running, written, forkAt}
-use Rattle.forks.specs.Turn.{running, Turn, forking, Reached, stateOf, Fetches, OneClass, EdgeAt, Cuttable, classAt}
+use Rattle.forks.specs.Working.Stack.{Running, written, forkAt}
+use Rattle.forks.specs.Working.Turn.{running, Turn, forking, Reached, stateOf, Fetches, OneClass, EdgeAt, Cuttable, classAt}
 use Rattle.calls.specs.Limits.{entryWords}
-use Rattle.forks.specs.Table.{groupIn, HasEntry, OnTop}
+use Rattle.forks.specs.Working.Table.{groupIn, HasEntry, OnTop}
 use Rattle.boxes.proofs.TwoLists.{lows-in, highs-in, length-in}
 use Rattle.forks.proofs.Turns.{known, now-one, cuttable, goes-forking}
 use Rattle.forks.proofs.Positions.{reached-represents, within-limit}
-use Rattle.decide.specs.Corner.{machine}
-use Rattle.lockstep.specs.Together.{Pair, pair, Hangs, together, starting, advanced, AtCorners}
+use Rattle.decide.specs.Working.Corner.{machine}
+use Rattle.lockstep.specs.Working.LockStep.{Pair, pair, Hangs, lockSteps, starting, advanced, AtCorners}
 use Rattle.lockstep.proofs.LockStep.{replayed, hangs-on}
 use Rattle.decide.proofs.Decisions.{class-by-registers}
 use Rattle.decide.proofs.Says.{says-forks}
 use Rattle.decide.specs.declared.Limits.{Limits}
 use Rattle.lockstep.specs.declared.Corners.{Corners}
-use Rattle.cuts.specs.Cutting.{probed}
-use Rattle.cuts.specs.Entries.{forkOf}
-use Rattle.cuts.specs.Forking.{Partable, Parted}
+use Rattle.cuts.specs.Working.Cutting.{probed}
+use Rattle.cuts.specs.Working.Entries.{forkOf}
+use Rattle.cuts.specs.Working.Forking.{Partable, Parted}
 use Rattle.cuts.proofs.Edges.{starts-in, parted-edge, parted-below}
-use Rattle.explorer.specs.Held.{Lists, groupOf, forksOf, cornersIn, withHigh, lowClass, Held, listed, forked, groupsLeft, work, AtFork, GoesOn}
+use Rattle.explorer.specs.Working.Held.{Lists, groupOf, forksOf, cornersIn, withHigh, lowClass, Held, listed, forked, groupsLeft, work, AtFork, GoesOn}
+use Rattle.explorer.specs.declared.Phase.the-variants.{AtGroup}
 use Rattle.explorer.specs.declared.Standing.{Standing}
 use Rattle.explorer.proofs.Stands.{fits-parted, represented, stands, forks-within, turned, lighter, work-running}
 use Rattle.explorer.proofs.Straight.{corners-next, written-is}
 use Rattle.corners.proofs.Uniform.{uniform-within}
-use Rattle.corners.specs.Good.{Good, lowState, inputOf, cornersOf, weight}
-use Rattle.corners.specs.Tags.{Tags}
+use Rattle.corners.specs.Working.Good.{Good, lowState, inputOf, cornersOf, weight}
+use Rattle.corners.specs.Working.Tags.{Tags}
 
 -- both corners replayed to a good group
 pub replayed-to : (j : Job) (ls hs : List ℕ) (n u : ℕ) → length ls ≡ length hs → Good j (groupIn ls hs n u)
-    → AtCorners j (boxIn ls hs) n (together ls hs (j .code) n (starting (j .memory)))
+    → AtCorners j (boxIn ls hs) n (lockSteps ls hs (j .code) n (starting (j .memory)))
 replayed-to j ls hs n u e g = rw (lows-in ls hs e, highs-in ls hs e) at (replayed j (boxIn ls hs) (g .sound) n (g .smooth))
 
 -- the high corner that a search left is the run on the highs
@@ -78,36 +78,36 @@ module _ {j : Job} {m : Limits} {x : Lists} {s : Standing} {i : Instruction} (k 
   -- the class at the low corner
   class-is : lowClass i x ≡ classOf i (after j (s .steps) (x .lows))
   class-is =
-      ap (λ (r : List ℕ). classOf i (machine r)) (stands h (k .running) .low-registers)
+      ap (λ (r : List ℕ). classOf i (machine r)) (stands h (k .group) .low-registers)
       ∙ class-by-registers i (lowState j g)
       ∙ ap (λ (c : Choice). classOf i (after j (s .steps) c)) (lows-in (x .lows) (x .highs) (h .fits .paired))
 
   goes : endBy j g (cornersOf j g) ≡ none
-  goes = says-forks (stands h (k .running)) (k .forks) .0
+  goes = says-forks (stands h (k .group)) (k .forks) .0
 
   fetched : Fetches j g i
-  fetched = says-forks (stands h (k .running)) (k .forks) .1
+  fetched = says-forks (stands h (k .group)) (k .forks) .1
 
   apart : ¬ OneClass j g i
-  apart = says-forks (stands h (k .running)) (k .forks) .2
+  apart = says-forks (stands h (k .group)) (k .forks) .2
 
   abbrev good : Good j g
-  good = represented h (k .running) .1 .good
+  good = represented h (k .group) .1 .good
 
   -- the group that a cut leads to is within the job's limits
   after-fork : (n : ℕ) × (q : ℕ)
       × (let v = inputOf j g i in Running j n (listed j s) (later g (written j g i + 1) (below (g .box) v q)) (forkAt g v q ∷ forksOf x s))
   after-fork =
-      let (n, r) = represented h (k .running) in
+      let (n, r) = represented h (k .group) in
       let o = now-one r goes fetched in
       let (q, d) = edge-exists (g .box) (good .sound .proper) (one-input-convex (g .box) o) apart in
       (suc n, q, goes-forking r goes fetched o d)
 
   pub fork-entry : HasEntry (x .table) (s .forks)
-  fork-entry = omega (arith, after-fork .2 .entries-fit, forks-within h (k .running), h .fits .table-fits)
+  fork-entry = omega (arith, after-fork .2 .entries-fit, forks-within h (k .group), h .fits .table-fits)
 
   pub fork-used : entryWords * (s .used + (writes (ltb (s .at .low .reads) (m .inputs)) i + 1)) ≤ length (x .table)
-  fork-used = omega (arith, written-is h (k .running) i, after-fork .2 .entries-fit, h .fits .table-fits)
+  fork-used = omega (arith, written-is h (k .group) i, after-fork .2 .entries-fit, h .fits .table-fits)
 
   pub fork-steps : s .steps + 1 ≤ m .steps
   fork-steps = omega (arith, within-limit j (h .fits .sound) (after-fork .2), h .fits .limit)
@@ -115,8 +115,8 @@ module _ {j : Job} {m : Limits} {x : Lists} {s : Standing} {i : Instruction} (k 
   -- by what the code has found: the tag of the class, and the class at the low corner
   module _ (tag : ℕ) (hangs : Hangs i (x .machines .low) (x .machines .high) (x .machines .tags) tag) where
     one : OneInput (g .box) tag (classAt j (s .steps) i)
-    one = let r = represented h (k .running) .1 in
-        hangs-on j (g .box) (good .sound) i (s .at) (x .machines) (h .corners (k .running)) (known r goes fetched .0 .settled) hangs
+    one = let r = represented h (k .group) .1 in
+        hangs-on j (g .box) (good .sound) i (s .at) (x .machines) (h .corners (k .group)) (known r goes fetched .0 .settled) hangs
 
     cuts : Cuttable (classAt j (s .steps) i) (boxIn (x .lows) (x .highs)) tag
     cuts = cuttable (g .box) (good .sound .proper) one apart
@@ -158,14 +158,14 @@ module _ {j : Job} {m : Limits} {x : Lists} {s : Standing} {i : Instruction} (k 
               let fits = fits-parted (h .fits) l p t in
               let r = forked m s i a in
               let reached : Reached j (running (listed j s) (groupOf y r) (forksOf y r)) =
-              rw (written-is h (k .running) i, add-one (s .forks), on-top, below-box) (turned h (k .running) turn) in
+              rw (written-is h (k .group) i, add-one (s .forks), on-top, below-box) (turned h (k .group) turn) in
               let within : Within (boxIn (y .lows) (y .highs)) (g .box) = rw below-box (below-within (edge .splits)) in
-              let row : fetch (j .code) (s .at .low .pc) ≡ Row i = rw (stands h (k .running) .pc) fetched in
+              let row : fetch (j .code) (s .at .low .pc) ≡ Row i = rw (stands h (k .group) .pc) fetched in
               record {
                 fits = fits;
                 reached = reached;
                 corners = λ _. rw (z, ← l) (corners-next j (y .lows) (y .highs) (s .steps) _ (fits .paired) (reached-represents (fits .sound) reached .1 .good) row
-                    (corners-below j (x .lows) (x .highs) (y .lows) (y .highs) (s .steps) (h .fits .paired) (fits .paired) l within (h .corners (k .running))));
+                    (corners-below j (x .lows) (x .highs) (y .lows) (y .highs) (s .steps) (h .fits .paired) (fits .paired) l within (h .corners (k .group))));
                 count = h .count;
               }
 
@@ -173,13 +173,13 @@ module _ {j : Job} {m : Limits} {x : Lists} {s : Standing} {i : Instruction} (k 
           unfolding stateOf
           work-forking =
               let r = forked m s i a in
-              let v : weight j (groupsLeft j true (groupOf y r) (forksOf y r))
+              let v : weight j (groupsLeft j AtGroup (groupOf y r) (forksOf y r))
               ≡ weight j (stateOf j
               (running (listed j s) (later g (written j g i + 1) (below (g .box) tag q)) (forkAt g tag q ∷ forksOf x s)) .waiting) =
-              rw (written-is h (k .running) i, add-one (s .forks), on-top, below-box) in
-              omega (arith, lighter h (k .running) turn, v, work-running j x s (k .going) (k .running), work-running j y r refl refl)
+              rw (written-is h (k .group) i, add-one (s .forks), on-top, below-box) in
+              omega (arith, lighter h (k .group) turn, v, work-running j x s (k .group), work-running j y r refl)
 
           pub fork-done : length (y .table) ≡ length (x .table)
               → cornersIn y a ≡ advanced (x .lows) (y .highs) i (withHigh (j .code) (j .memory) (s .steps) (y .highs) (cornersIn x (s .at)))
               → GoesOn j m x s y (forked m s i a)
-          fork-done t z = record { held = held-forking t z; paths = refl; going = refl; less = work-forking }
+          fork-done t z = record { held = held-forking t z; paths = refl; goes = refl; less = work-forking }

@@ -1,4 +1,5 @@
 -- The laws that make one turn of the engine of each turn of the code.
+--     Phases      a phase, by the tests on it
 --     Stands      what the lists and numbers of an exploration under way give
 --     Straight    a turn that goes straight on
 --     Forking     a turn that forks
@@ -8,6 +9,7 @@
 --     StraightOn  straight steps one after another
 --     Finished    the exploration of a call from its first group to its page
 --     Accepting   a call that passed the questions
+pub mod Phases
 pub mod Stands
 pub mod Straight
 pub mod Forking

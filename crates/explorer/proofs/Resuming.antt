@@ -10,40 +10,50 @@ use native.Mathlib.Decide.{ℕ-discrete}
 use lib.Dec.{ltb}
 use lib.ListN.{length, getD}
 use Rattle.boxes.specs.Boxes.{Box, Choice, Within, _⋯_, lows, highs}
-use Rattle.boxes.specs.Cuts.{OneInput, cut, below, boxIn}
+use Rattle.boxes.specs.Working.Cuts.{OneInput, cut, below, boxIn}
 use Rattle.boxes.proofs.Cut.{below-within}
 use Rattle.boxes.proofs.OneInput.{one-input-convex}
 use Rattle.boxes.proofs.Pieces.{edge-exists}
 use Rattle.riscu.specs.Machine.{State, fetch}
 use Rattle.riscu.specs.declared.Instruction.{Instruction}
+use Rattle.riscu.specs.declared.Decoded.{Decoded}
 use Rattle.riscu.specs.declared.Decoded.the-variants.{Row, NoRow}
 use Rattle.listing.specs.Group.{Job, Group, after, classOf}
 use Rattle.listing.specs.Ending.{writes}
 use Rattle.listing.specs.Listing.{Path, Progress, later}
-use Rattle.forks.specs.Stack.{Fork, Resting, before, left, written, spend, shorten, withRest, waitingOf}
-use Rattle.forks.specs.Turn.{Position, running, resting, Turn, dropping, whole-rest, first-part, Reached, turns, stateOf, OneClass, EdgeAt, classAt}
+use Rattle.forks.specs.Working.Stack.{Fork, Resting, before, left, written, spend, shorten, withRest, waitingOf}
+use Rattle.forks.specs.Working.Turn.{Position, running, resting, Turn, dropping, whole-rest, first-part, Reached, turns, stateOf, OneClass, EdgeAt, classAt}
 use Rattle.calls.specs.Limits.{entryWords}
-use Rattle.forks.specs.Table.{forkIn, forksIn, HasEntry}
+use Rattle.forks.specs.Working.Table.{forkIn, forksIn, HasEntry}
 use Rattle.forks.proofs.Table.{forks-count}
 use Rattle.boxes.proofs.TwoLists.{lows-in, highs-in, length-in}
 use Rattle.forks.proofs.Parts.{fetched-part, written-part}
 use Rattle.forks.proofs.Turns.{known-fork, rest-within, rest-proper, rest-good, rest-one, rest-cuttable, takes-whole, takes-first}
 use Rattle.forks.proofs.Positions.{reached-represents, turn-represents, represents-moves, within-limit, depth}
-use Rattle.decide.specs.Corner.{machine}
-use Rattle.lockstep.specs.Together.{Machines, both, advanced, together, starting, AtCorners}
+use Rattle.decide.specs.Working.Corner.{machine}
+use Rattle.lockstep.specs.Working.LockStep.{Machines, both, advanced, lockSteps, starting, AtCorners}
 use Rattle.decide.proofs.Decisions.{class-by-registers}
 use Rattle.decide.specs.declared.Limits.{Limits}
 use Rattle.lockstep.specs.declared.Corners.{Corners}
-use Rattle.cuts.specs.Cutting.{probed, Starts}
-use Rattle.cuts.specs.Forking.{Parted}
+use Rattle.cuts.specs.Working.Cutting.{probed, Starts}
+use Rattle.cuts.specs.Working.Forking.{Parted}
 use Rattle.cuts.proofs.Edges.{starts-in, parted-edge, parted-below}
-use Rattle.explorer.specs.Held.{Lists, lists, groupOf, forksOf, latest, listed, cornersIn, withHigh, lowClass, highClass, Held, Rest, AtRest, GoesOn, Takeable, TakenUp, dropped, resumed, groupsLeft, work}
+use Rattle.explorer.specs.Working.Held.{Lists, lists, groupOf, forksOf, latest, listed, cornersIn, withHigh, lowClass, highClass, atGroup, Held, Rest, AtRest, GoesOn, Takeable, TakenUp, dropped, resumed, groupsLeft, work}
+use Rattle.explorer.specs.declared.Phase.the-variants.{AtGroup, Between}
 use Rattle.explorer.specs.declared.Standing.{Standing}
 use Rattle.boxes.proofs.Lists.{not-both}
 use Rattle.explorer.proofs.Stands.{fits-again, fits-parted, work-running, work-resting}
 use Rattle.explorer.proofs.Straight.{corners-next}
 use Rattle.explorer.proofs.Forking.{replayed-to, corners-below}
-use Rattle.corners.specs.Good.{lowState, highState, weight}
+use Rattle.corners.specs.Working.Good.{lowState, highState, weight}
+
+-- a word is no instruction or one
+module _ {d : Decoded} {i : Instruction} (e : d ≡ Row i) where
+  pub one-row : {r : Instruction} → d ≡ Row r → r ≡ i
+  one-row q = cc
+
+  pub some-row : {A : Type 0} → d ≡ NoRow → A
+  some-row q = let v : _≡_ {A = ℕ} 0 1 = cc in absurd (omega arith)
 
 pub forks-top : (t : List ℕ) (n : ℕ) → 0 < n → forksIn t n ≡ forkIn t (n - 1) ∷ forksIn t (n - 1)
 unfolding forksIn
@@ -53,7 +63,7 @@ pub forks-at : {fs : List Fork} (t : List ℕ) (n : ℕ) → 0 < n → forksIn t
 forks-at t n l e = let d : n ≡ suc (n - 1) = omega arith in ap (forksIn t) d ∙ e
 
 -- between two groups, with a fork
-module _ {j : Job} {m : Limits} {ps : List Path} {x : Lists} {s : Standing} (h : Held j m ps x s) (e : s .running ≡ false)
+module _ {j : Job} {m : Limits} {ps : List Path} {x : Lists} {s : Standing} (h : Held j m ps x s) (e : s .phase ≡ Between)
     (some : 0 < s .forks) where
   pub between : Reached j (resting ps (groupOf x s) (latest x s ∷ forksIn (x .table) (s .forks - 1)))
   between = rw (forks-top (x .table) (s .forks) some) at (rw e at (h .reached))
@@ -78,7 +88,7 @@ module _ {j : Job} {m : Limits} {ps : List Path} {x : Lists} {s : Standing} (h :
 
   -- a turn between two groups is no move
   waits : {t : Position} → Turn j (resting ps (groupOf x s) (latest x s ∷ forksIn (x .table) (s .forks - 1))) t
-      → stateOf j t .waiting ≡ groupsLeft j false (groupOf x s) (forksOf x s)
+      → stateOf j t .waiting ≡ groupsLeft j Between (groupOf x s) (forksOf x s)
   unfolding stateOf
   waits {t} d =
       let (n, r) = rests in
@@ -102,17 +112,17 @@ module _ {j : Job} {m : Limits} {ps : List Path} {x : Lists} {s : Standing} (h :
     held-dropped = record {
       fits = fits-again (h .fits) p q refl;
       reached = rw b (turns between turn);
-      corners = not-both refl;
+      corners = λ z. not-both refl (ap atGroup z);
       count = h .count;
     }
 
-    pub work-dropped : s .going ≡ true → work j kept (dropped (latest x s) s) < work j x s
+    pub work-dropped : work j kept (dropped (latest x s) s) < work j x s
     unfolding stateOf
-    work-dropped g =
-        let v : weight j (groupsLeft j false (groupOf kept (dropped (latest x s) s)) (forksOf kept (dropped (latest x s) s)))
+    work-dropped =
+        let v : weight j (groupsLeft j Between (groupOf kept (dropped (latest x s) s)) (forksOf kept (dropped (latest x s) s)))
         ≡ weight j (stateOf j (resting ps (before (latest x s) (groupOf x s .box)) (forksIn (x .table) (s .forks - 1))) .waiting) =
         rw b in
-        omega (arith, v, ap (weight j) (waits turn), work-resting j x s g e, work-resting j kept (dropped (latest x s) s) refl refl)
+        omega (arith, v, ap (weight j) (waits turn), work-resting j x s e, work-resting j kept (dropped (latest x s) s) refl)
 
   -- What is left of it is taken up: the box of the rest, both corners replayed to the fork.
   module _ (t : latest x s .spent ≡ false) (ls hs : List ℕ)
@@ -124,7 +134,7 @@ module _ {j : Job} {m : Limits} {ps : List Path} {x : Lists} {s : Standing} (h :
         (rest-within r) (rest-proper r) (known-fork r .followed)
 
     module _ (y : Machines) (a : Corners)
-        (z : both a y ≡ together ls hs (j .code) (latest x s .steps) (starting (j .memory))) where
+        (z : both a y ≡ lockSteps ls hs (j .code) (latest x s .steps) (starting (j .memory))) where
       there : AtCorners j (boxIn ls hs) (latest x s .steps) (both a y)
       there =
           rw z (replayed-to j ls hs (latest x s .steps) (latest x s .used) (p ∙ h .fits .paired ∙ sym q) (rw b (rest-good (rests .1))))
@@ -250,7 +260,7 @@ module _ {j : Job} {m : Limits} {ps : List Path} {g : Group} {x : Lists} {s : St
 
   -- what is left to do before it is taken up, v being the lists then
   abbrev Before : Lists → Type 0
-  Before v = work j v s ≡ 4 * weight j (waitingOf j (f ∷ fs) (g .box)) + 2 * s .forks + 2
+  Before v = work j v s ≡ 4 * weight j (waitingOf j (f ∷ fs) (g .box)) + 2 * s .forks + 1
 
   -- whole, where the class is the same at both corners
   module _ (t : List ℕ) (n : Machines) (b : Corners) (z : forksIn t (s .forks) ≡ spend f ∷ fs) (e : lowClass i x ≡ highClass i x) where
@@ -276,10 +286,10 @@ module _ {j : Job} {m : Limits} {ps : List Path} {g : Group} {x : Lists} {s : St
     unfolding stateOf
     work-whole v q =
         let r = resumed m f s i a b in
-        let p : weight j (groupsLeft j true (groupOf whole r) (forksOf whole r))
+        let p : weight j (groupsLeft j AtGroup (groupOf whole r) (forksOf whole r))
         ≡ weight j (stateOf j (running ps (later rest (written j rest i + 1) (rest .box)) (spend f ∷ fs)) .waiting) =
         rw (z, written-there, h .box) in
-        omega (arith, p, q, ap (weight j) (unmoved turn-whole), work-running j whole r refl refl)
+        omega (arith, p, q, ap (weight j) (unmoved turn-whole), work-running j whole r refl)
 
   -- the part below a cut
   module _ (y : Lists) (b : Corners) (q : ℕ) (l : y .lows ≡ x .lows)
@@ -322,29 +332,31 @@ module _ {j : Job} {m : Limits} {ps : List Path} {g : Group} {x : Lists} {s : St
     unfolding stateOf
     work-first v e =
         let r = resumed m f s i a b in
-        let d : weight j (groupsLeft j true (groupOf y r) (forksOf y r))
+        let d : weight j (groupsLeft j AtGroup (groupOf y r) (forksOf y r))
         ≡ weight j (stateOf j (running ps (later rest (written j rest i + 1) (below (rest .box) (f .input) q)) (shorten f q ∷ fs)) .waiting) =
         rw (shortened, written-there, below-box) in
-        omega (arith, d, e, ap (weight j) (unmoved turn-first), work-running j y r refl refl)
+        omega (arith, d, e, ap (weight j) (unmoved turn-first), work-running j y r refl)
 
 -- The whole turn, by what the code has found: f is the latest fork as it was read from the table, ls and hs hold its rest, and the
 -- machines y at a are replayed to it.
-module _ {j : Job} {m : Limits} {x : Lists} {s : Standing} (h : AtRest j m x s) {f : Fork} (k : f ≡ latest x s) (ls hs : List ℕ)
+module _ {j : Job} {m : Limits} {x : Lists} {s : Standing} {f : Fork} (h : AtRest j m x s f) (ls hs : List ℕ)
     (b : boxIn ls hs ≡ cut (boxIn (x .lows) (x .highs)) (f .input) (f .rest ⋯ f .high))
     (p : length ls ≡ length (x .lows)) (q : length hs ≡ length (x .highs)) (y : Machines) (a : Corners)
-    (z : both a y ≡ together ls hs (j .code) (f .steps) (starting (j .memory))) where
+    (z : both a y ≡ lockSteps ls hs (j .code) (f .steps) (starting (j .memory))) where
   abbrev pub rest-lists : Lists
   rest-lists = lists ls hs (x .table) y
 
-  pub has-row : fetch (j .code) (a .low .pc) ≢ NoRow
-  has-row d =
-      let r = rest-fetches (h .held) (h .running) (h .some) (h .unspent) ls hs (rw k at b) p q y a (rw k at z) in
-      let v : _≡_ {A = ℕ} 0 1 = cc in
-      omega arith
+  abbrev k : f ≡ latest x s
+  k = h .top
 
-  module _ (i : Instruction) (d : fetch (j .code) (a .low .pc) ≡ Row i) where
+  abbrev unspent : latest x s .spent ≡ false
+  unspent = rw k at (h .unspent)
+
+  module _ (i : Instruction) (d : (r : Instruction) → fetch (j .code) (a .low .pc) ≡ Row r → i ≡ r) where
     rest-held : Rest j m (listed j s) (groupOf x s) rest-lists s i a
-    rest-held = held-rest (h .held) (h .running) (h .some) (h .unspent) ls hs (rw k at b) p q y a (rw k at z) i d
+    rest-held =
+        let e = rest-fetches (h .held) (h .between) (h .some) unspent ls hs (rw k at b) p q y a (rw k at z) in
+        held-rest (h .held) (h .between) (h .some) unspent ls hs (rw k at b) p q y a (rw k at z) i (e ∙ ap Row (sym (d _ e)))
 
     pub take-steps : f .steps + 1 ≤ m .steps
     take-steps = rw k (rest-steps rest-held)
@@ -355,14 +367,14 @@ module _ {j : Job} {m : Limits} {x : Lists} {s : Standing} (h : AtRest j m x s) 
     pub takeable : Takeable (j .code) (j .memory) i (s .forks - 1) (f .input) (f .steps) rest-lists
     takeable = record {
       paired = rest-held .fits .paired;
-      inside = omega (arith, ap (λ (e : Fork). e .input) k, top-inside (h .held) (h .running) (h .some), p);
-      entry = top-entry (h .held) (h .running) (h .some);
+      inside = omega (arith, ap (λ (e : Fork). e .input) k, top-inside (h .held) (h .between) (h .some), p);
+      entry = top-entry (h .held) (h .between) (h .some);
       starts = λ e. rw (k, class-low rest-held) (rest-starts rest-held e);
     }
 
     resting-work : work j x s ≡ 4 * weight j
-        (waitingOf j (latest x s ∷ forksIn (x .table) (s .forks - 1)) (boxIn (x .lows) (x .highs))) + 2 * s .forks + 2
-    resting-work = rw (forks-top (x .table) (s .forks) (h .some)) at (work-resting j x s (h .going) (h .running))
+        (waitingOf j (latest x s ∷ forksIn (x .table) (s .forks - 1)) (boxIn (x .lows) (x .highs))) + 2 * s .forks + 1
+    resting-work = rw (forks-top (x .table) (s .forks) (h .some)) at (work-resting j x s (h .between))
 
     pub taken-up : (v : Lists) (c : Corners) → length (v .table) ≡ length (x .table)
         → TakenUp (j .code) (j .memory) i (s .forks - 1) (f .input) (f .steps) rest-lists a v c → GoesOn j m x s v (resumed m f s i a c)
@@ -373,7 +385,7 @@ module _ {j : Job} {m : Limits} {x : Lists} {s : Standing} (h : AtRest j m x s) 
         rw k (subst (λ (v : Lists). GoesOn j m x s v (resumed m (latest x s) s i a c)) back (record {
           held = held-whole rest-held (v .table) (v .machines) c forks n l (t .corners);
           paths = refl;
-          going = refl;
+          goes = refl;
           less = work-whole rest-held (v .table) (v .machines) c forks n x resting-work;
         })))
         (λ (n, t).
@@ -382,6 +394,6 @@ module _ {j : Job} {m : Limits} {x : Lists} {s : Standing} (h : AtRest j m x s) 
         rw k (record {
           held = held-first rest-held v c (t .edge) (t .lows) parted forks l (rw k at (t .corners));
           paths = refl;
-          going = refl;
+          goes = refl;
           less = work-first rest-held v c (t .edge) (t .lows) parted forks x resting-work;
         }))

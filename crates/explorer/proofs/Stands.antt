@@ -1,7 +1,6 @@
 -- What is known where the explorer's lists hold a state of the engine.
 -- Assumes nothing.
 use mathlib.Core.Path.{_≡_, refl, sym, ap, _∙_}
-use mathlib.Core.Bool.{true, false, cond}
 use mathlib.Core.List.{List}
 use Prim.Native.Nat.{ℕ, _+_, _*_, _≤_, _<_}
 use native.Mathlib.Omega.{arith}
@@ -9,18 +8,19 @@ use lib.ListN.{length, length-set}
 use Rattle.boxes.specs.Boxes.{lows, highs}
 use Rattle.listing.specs.Group.{Job}
 use Rattle.listing.specs.Listing.{Path}
-use Rattle.forks.specs.Stack.{Running}
-use Rattle.forks.specs.Turn.{Position, running, Turn, Reached, turns, stateOf}
+use Rattle.forks.specs.Working.Stack.{Running}
+use Rattle.forks.specs.Working.Turn.{Position, running, Turn, Reached, turns, stateOf}
 use Rattle.forks.proofs.Table.{forks-count}
 use Rattle.boxes.proofs.TwoLists.{length-in}
 use Rattle.forks.proofs.Positions.{reached-represents, turn-represents, work-falls, depth}
 use Rattle.riscu.specs.Machine.{State}
 use Rattle.decide.proofs.Decisions.{Stands}
 use Rattle.decide.specs.declared.Limits.{Limits}
-use Rattle.cuts.specs.Forking.{Parted}
-use Rattle.explorer.specs.Held.{Lists, groupOf, forksOf, usedOf, Fits, Held, groupsLeft, work}
+use Rattle.cuts.specs.Working.Forking.{Parted}
+use Rattle.explorer.specs.Working.Held.{Lists, groupOf, forksOf, usedOf, Fits, Held, groupsLeft, idle, work}
+use Rattle.explorer.specs.declared.Phase.the-variants.{AtGroup, Between}
 use Rattle.explorer.specs.declared.Standing.{Standing}
-use Rattle.corners.specs.Good.{weight}
+use Rattle.corners.specs.Working.Good.{weight}
 
 -- lists as long as those that fit, fit as well
 pub fits-again : {j : Job} {m : Limits} {ls hs t ls′ hs′ t′ : List ℕ} → Fits j m ls hs t → length ls′ ≡ length ls → length hs′ ≡ length hs
@@ -39,7 +39,7 @@ pub fits-parted : {j : Job} {m : Limits} {ls hs t ls′ hs′ t′ : List ℕ} {
     → Parted f k i ls hs hs′ q → length t′ ≡ length t → Fits j m ls′ hs′ t′
 fits-parted {hs = hs} {i = i} {q = q} f e p = fits-again f (ap length e) (ap length (p .highs) ∙ length-set hs i q)
 
-module _ {j : Job} {m : Limits} {ps : List Path} {x : Lists} {s : Standing} (h : Held j m ps x s) (e : s .running ≡ true) where
+module _ {j : Job} {m : Limits} {ps : List Path} {x : Lists} {s : Standing} (h : Held j m ps x s) (e : s .phase ≡ AtGroup) where
   pub at-group : Reached j (running ps (groupOf x s) (forksOf x s))
   at-group = rw e at (h .reached)
 
@@ -70,17 +70,15 @@ module _ {j : Job} {m : Limits} {ps : List Path} {x : Lists} {s : Standing} (h :
     pub turned : Reached j t
     turned = turns at-group d
 
-    pub lighter : weight j (stateOf j t .waiting) < weight j (groupsLeft j true (groupOf x s) (forksOf x s))
+    pub lighter : weight j (stateOf j t .waiting) < weight j (groupsLeft j AtGroup (groupOf x s) (forksOf x s))
     lighter = let (n, r) = represented in work-falls j (h .fits .sound) r t (turn-represents n d r)
 
 -- the work at a group, and between two
-module _ (j : Job) (x : Lists) (s : Standing) (g : s .going ≡ true) where
-  pub work-running : s .running ≡ true → work j x s ≡ 4 * weight j (groupsLeft j true (groupOf x s) (forksOf x s)) + 2 * s .forks + 1
+module _ (j : Job) (x : Lists) (s : Standing) where
+  pub work-running : s .phase ≡ AtGroup → work j x s ≡ 4 * weight j (groupsLeft j AtGroup (groupOf x s) (forksOf x s)) + 2 * s .forks
   unfolding work
-  work-running e =
-      (λ k. 4 * weight j (groupsLeft j (e k) (groupOf x s) (forksOf x s)) + 2 * s .forks + cond (e k) 0 1 + cond (g k) 1 0) ∙ omega arith
+  work-running e = (λ k. 4 * weight j (groupsLeft j (e k) (groupOf x s) (forksOf x s)) + 2 * s .forks + idle (e k)) ∙ omega arith
 
-  pub work-resting : s .running ≡ false → work j x s ≡ 4 * weight j (groupsLeft j false (groupOf x s) (forksOf x s)) + 2 * s .forks + 2
+  pub work-resting : s .phase ≡ Between → work j x s ≡ 4 * weight j (groupsLeft j Between (groupOf x s) (forksOf x s)) + 2 * s .forks + 1
   unfolding work
-  work-resting e =
-      (λ k. 4 * weight j (groupsLeft j (e k) (groupOf x s) (forksOf x s)) + 2 * s .forks + cond (e k) 0 1 + cond (g k) 1 0) ∙ omega arith
+  work-resting e = λ k. 4 * weight j (groupsLeft j (e k) (groupOf x s) (forksOf x s)) + 2 * s .forks + idle (e k)

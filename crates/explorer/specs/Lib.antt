@@ -1,7 +1,2 @@
--- What the contracts of the exploration say.
---     Held        the engine's state in the lists and numbers of the code
---     Explored    that state with what of the page is written
---     Finished    an exploration as it begins and as it has ended
-pub mod Held
-pub mod Explored
-pub mod Finished
+-- No definition here is to be believed.
+pub mod Working

@@ -1,25 +1,31 @@
 // A fork of the group at hand, and what is left of the latest fork taken up.
+use crate::Phase;
 use crate::Standing;
+use cuts::entries::Entry;
 use cuts::entries::note;
 use cuts::entries::rise;
 use cuts::entries::spend;
-use cuts::entries::top;
 use cuts::forking::part;
 use cuts::forking::set_interval;
-use cuts::hints::hint;
 use decide::Limits;
 use decide::classes::class_of;
 use decide::group::writes;
 use lockstep::Corners;
+use lockstep::advancing::advance;
 use lockstep::tags::class_tag;
-use lockstep::together::advance;
 use riscu::Decoded;
 use riscu::Instruction;
 use riscu::plain::Memory;
 use riscu::plain::Registers;
 use riscu::plain::fetch;
 use straight::replaying::replay;
-ghost use Rattle.explorer.specs.Held.{jobAt, jobBefore, listsAt, listsBefore, listsAfter, AtFork, AtRest, GoesOn, Takeable, TakenUp};
+ghost use mathlib.Core.Path.{_≡_};
+ghost use Rattle.riscu.specs.Lent.{lent};
+ghost use Rattle.riscu.specs.Machine.{fetch};
+ghost use Rattle.riscu.specs.declared.Instruction.{Instruction};
+ghost use Rattle.riscu.specs.declared.Decoded.the-variants.{Row};
+ghost use Rattle.cuts.specs.Working.Entries.{forkHeld};
+ghost use Rattle.explorer.specs.Working.Held.{jobAt, jobLent, listsAt, lentLists, AtFork, AtRest, GoesOn, Takeable, TakenUp};
 
 // Cuts the box at the fork, notes the rest in the table, and goes on below the cut: the low corner stays, and `part` left the high one.
 pub(crate) fn fork_on(
@@ -41,9 +47,8 @@ pub(crate) fn fork_on(
 ) -> Standing
     requires { ⌜ AtFork (jobAt code memory intervals limits) limits (listsAt lows highs table low lowmem high highmem tags tagmem) s i ⌝ }
     ensures { λ r.
-        let x = listsBefore lows highs table low lowmem high highmem tags tagmem in
-        let y = listsAfter lows highs table low lowmem high highmem tags tagmem in
-        ⌜ GoesOn (jobBefore code memory intervals limits) limits x s y r ⌝ }
+        let z = lentLists lows highs table low lowmem high highmem tags tagmem in
+        ⌜ GoesOn (jobLent code memory intervals limits) limits (z .before) s (z .after) r ⌝ }
 {
     let at = s.at;
     let w = writes(at.low.reads < limits.inputs, i);
@@ -55,45 +60,31 @@ pub(crate) fn fork_on(
     let class = class_of(i, low);
     let lo = lows[input];
     let hi = highs[input];
-    let guesses = hint(i, low, high, lo, hi);
     let below = part(
         code,
         memory,
+        low,
         high,
         highmem,
         lows,
         highs,
         input,
         class,
-        guesses,
         s.steps,
         i,
     );
     note(table, s.forks, input, lo, hi, below.edge, s.steps, s.used);
     let l = at.low;
     let h = below.high;
-    let from = Corners { low: l, high: h };
-    let to = advance(
-        i,
-        low,
-        lowmem,
-        high,
-        highmem,
-        tags,
-        tagmem,
-        lows,
-        highs,
-        from,
-    );
+    let at = Corners { low: l, high: h };
+    let to = advance(i, low, lowmem, high, highmem, tags, tagmem, lows, highs, at);
     Standing {
-        going: true,
-        running: true,
-        more: false,
+        phase: Phase::AtGroup,
         steps,
         used,
         forks,
-        paths: s.paths,
         at: to,
+        ..s
     }
 }
 
@@ -111,17 +102,15 @@ fn take_rest(
     tags: &mut Registers,
     tagmem: &mut Memory,
     below: usize,
-    input: usize,
-    steps: usize,
+    f: Entry,
     i: Instruction,
     at: Corners,
 ) -> Corners
     requires { let x = listsAt lows highs table low lowmem high highmem tags tagmem in
-        ⌜ Takeable (now code) (now memory) i below input steps x ⌝ }
+        ⌜ Takeable (now code) (now memory) i below (f .input) (f .steps) x ⌝ }
     ensures { λ r.
-        let x = listsBefore lows highs table low lowmem high highmem tags tagmem in
-        let y = listsAfter lows highs table low lowmem high highmem tags tagmem in
-        ⌜ TakenUp (now (code .entry)) (now (memory .entry)) i below input steps x at y r ⌝ }
+        let z = lentLists lows highs table low lowmem high highmem tags tagmem in
+        ⌜ TakenUp (lent code) (lent memory) i below (f .input) (f .steps) (z .before) at (z .after) r ⌝ }
 {
     let a = class_of(i, low);
     let b = class_of(i, high);
@@ -129,41 +118,40 @@ fn take_rest(
         spend(table, below);
         return advance(i, low, lowmem, high, highmem, tags, tagmem, lows, highs, at);
     }
-    let lo = lows[input];
+    let input = f.input;
     let hi = highs[input];
-    let guesses = hint(i, low, high, lo, hi);
     let first = part(
         code,
         memory,
+        low,
         high,
         highmem,
         lows,
         highs,
         input,
         a,
-        guesses,
-        steps,
+        f.steps,
         i,
     );
     rise(table, below, first.edge, hi);
     let l = at.low;
     let h = first.high;
-    let from = Corners { low: l, high: h };
-    advance(
-        i,
-        low,
-        lowmem,
-        high,
-        highmem,
-        tags,
-        tagmem,
-        lows,
-        highs,
-        from,
-    )
+    let at = Corners { low: l, high: h };
+    advance(i, low, lowmem, high, highmem, tags, tagmem, lows, highs, at)
 }
 
-// Takes up the rest of the latest fork: both corners are replayed to the fork, so that nothing of the path before is left.
+// The instruction that the code has at pc. What it is where there is none, is free.
+fn instruction_at(code: &[u32], pc: u64) -> Instruction
+    ensures { λ r. ⌜ ((i : Instruction) → fetch (lent code) pc ≡ Row i → r ≡ i) ⌝ }
+{
+    let d = fetch(code, pc);
+    let Decoded::Row(i) = d else {
+        return Instruction::Ecall;
+    };
+    i
+}
+
+// Takes up the rest of the latest fork, which is f: both corners are replayed to the fork, so that nothing of the path before is left.
 pub(crate) fn resume(
     code: &[u32],
     memory: &Memory,
@@ -178,16 +166,16 @@ pub(crate) fn resume(
     highmem: &mut Memory,
     tags: &mut Registers,
     tagmem: &mut Memory,
+    f: Entry,
     s: Standing,
 ) -> Standing
-    requires { ⌜ AtRest (jobAt code memory intervals limits) limits (listsAt lows highs table low lowmem high highmem tags tagmem) s ⌝ }
+    requires { let x = listsAt lows highs table low lowmem high highmem tags tagmem in
+        ⌜ AtRest (jobAt code memory intervals limits) limits x s (forkHeld f) ⌝ }
     ensures { λ r.
-        let x = listsBefore lows highs table low lowmem high highmem tags tagmem in
-        let y = listsAfter lows highs table low lowmem high highmem tags tagmem in
-        ⌜ GoesOn (jobBefore code memory intervals limits) limits x s y r ⌝ }
+        let z = lentLists lows highs table low lowmem high highmem tags tagmem in
+        ⌜ GoesOn (jobLent code memory intervals limits) limits (z .before) s (z .after) r ⌝ }
 {
     let below = s.forks - 1;
-    let f = top(table, below);
     let input = f.input;
     set_interval(lows, highs, input, f.rest, f.high);
     let at = replay(
@@ -204,13 +192,8 @@ pub(crate) fn resume(
         highs,
     );
     let l = at.low;
-    let d = fetch(code, l.pc);
-    let Decoded::Row(i) = d else {
-        return s;
-    };
+    let i = instruction_at(code, l.pc);
     let w = writes(l.reads < limits.inputs, i);
-    let steps = f.steps + 1;
-    let used = f.used + (w + 1);
     let to = take_rest(
         code,
         memory,
@@ -224,19 +207,9 @@ pub(crate) fn resume(
         tags,
         tagmem,
         below,
-        input,
-        f.steps,
+        f,
         i,
         at,
     );
-    Standing {
-        going: true,
-        running: true,
-        more: false,
-        steps,
-        used,
-        forks: s.forks,
-        paths: s.paths,
-        at: to,
-    }
+    s.at_group(f.steps + 1, f.used + (w + 1), to)
 }

@@ -2,8 +2,8 @@
 use crate::Standing;
 use crate::turns::run_turns;
 use blocks::MOST_INPUTS;
-use blocks::PATH_BYTES;
 use blocks::block::word_or_zero;
+use blocks::report::records_in;
 use calls::Answer;
 use calls::questions::ENTRY_WORDS;
 use cuts::entries::clear;
@@ -16,17 +16,17 @@ ghost use mathlib.Core.Path.{_≡_};
 ghost use mathlib.Core.Option.{none};
 ghost use Prim.Native.Nat.{_-_, _<_};
 ghost use lib.ListN.{length};
+ghost use Rattle.riscu.specs.Lent.{lent, returned};
 ghost use Rattle.riscu.specs.Limits.{memoryWords};
-ghost use Rattle.boxes.specs.Boxes.{from};
 ghost use Rattle.calls.specs.Call.{callOf, refusalOf, left};
 ghost use Rattle.calls.specs.Border.{callLent, calledOn};
-ghost use Rattle.explorer.specs.Held.{jobAt, jobBefore};
-ghost use Rattle.explorer.specs.Finished.{endsOf, Begins, Finished};
+ghost use Rattle.explorer.specs.Working.Held.{jobAt, jobLent};
+ghost use Rattle.explorer.specs.Working.Finished.{paddedEnds, Begins, Finished};
 
 // The lent memory, which is never written.
 fn copied(memory: &[u64]) -> Memory
     requires { ⌜ length (now memory) ≡ memoryWords ⌝ }
-    ensures { λ r. ⌜ r ≡ now (memory .entry) ⌝ }
+    ensures { λ r. ⌜ r ≡ lent memory ⌝ }
 {
     let mut words = [0u64; Machine::MEMORY_WORDS];
     let mut k: usize = 0;
@@ -40,7 +40,7 @@ fn copied(memory: &[u64]) -> Memory
 // The lows of the intervals, side being 0, or their highs, side being 1; 0 where there are none.
 fn ends(intervals: &[u64], side: usize) -> [u64; MOST_INPUTS]
     requires { ⌜ side < 2 ⌝ }
-    ensures { λ r. ⌜ r ≡ endsOf side (now (intervals .entry)) ⌝ }
+    ensures { λ r. ⌜ r ≡ paddedEnds side (lent intervals) ⌝ }
 {
     let mut words = [0u64; MOST_INPUTS];
     let mut k: usize = 0;
@@ -65,8 +65,8 @@ fn explore_box(
 ) -> Standing
     requires { ⌜ Begins (jobAt code memory intervals limits) limits window (now lows) (now highs) (now table) (now report) ⌝ }
     ensures { λ r.
-        let c = callOf (now (code .entry)) (now (intervals .entry)) (limits .steps) (now (report .entry)) (window .first) in
-        ⌜ Finished (jobBefore code memory intervals limits) c (now (report .exit)) r ⌝ }
+        let c = callLent code intervals (limits .steps) report (window .first) in
+        ⌜ Finished (jobLent code memory intervals limits) c (returned report) r ⌝ }
 {
     let mut low = [0u64; 32];
     let mut high = [0u64; 32];
@@ -87,16 +87,6 @@ fn explore_box(
         lows,
         highs,
     );
-    let from = Standing {
-        going: true,
-        running: true,
-        more: false,
-        steps: 0,
-        used: 0,
-        forks: 0,
-        paths: 0,
-        at,
-    };
     run_turns(
         code,
         memory,
@@ -113,7 +103,7 @@ fn explore_box(
         &mut highmem,
         &mut tags,
         &mut tagmem,
-        from,
+        at,
     )
 }
 
@@ -138,7 +128,7 @@ pub fn accepted(
         ⌜ refusalOf (now memory) (length (now table)) c ≡ none ⌝ }
     ensures { λ r.
         let c = callLent code intervals limit report first in
-        let l = left r (now (report .exit)) (now (table .exit)) (now (memory .entry)) in
+        let l = left r (returned report) (returned table) (lent memory) in
         ⌜ l ≡ calledOn memory table c ⌝ }
 {
     let held = copied(memory);
@@ -150,7 +140,7 @@ pub fn accepted(
         entries: table.len() / ENTRY_WORDS,
         inputs: n,
     };
-    let places = (report.len() / PATH_BYTES) as u64;
+    let places = records_in(report, n) as u64;
     let window = Window {
         first,
         end: first + places,
@@ -168,8 +158,6 @@ pub fn accepted(
     );
     clear(table);
     let count = past(s.paths, first);
-    Answer::Page {
-        count,
-        more: s.more,
-    }
+    let more = s.has_more();
+    Answer::Page { count, more }
 }

@@ -7,16 +7,83 @@ mod running;
 mod turns;
 
 use lockstep::Corners;
+ghost use mathlib.Core.Path.{_≡_};
+ghost use Rattle.explorer.specs.Working.Held.{standing, going, atGroup, more};
+ghost use Rattle.explorer.specs.Working.Explored.{halted};
+ghost use Rattle.explorer.specs.declared.Phase.the-variants.{AtGroup};
 
-// Where an exploration stands: at a group, or between two groups; the numbers of the group, the forks in the table, the paths ended,
-// and where the machines at the corners are. It stops with the answer whether a further path exists.
+// At a group, between two groups, or stopped, with the answer whether a further path exists.
+pub enum Phase {
+    AtGroup,
+    Between,
+    Stopped { more: bool },
+}
+
+// Where an exploration stands: its phase, the numbers of the group, the forks in the table, the paths ended, and where the machines at
+// the corners are.
 pub struct Standing {
-    pub going: bool,
-    pub running: bool,
-    pub more: bool,
+    pub phase: Phase,
     pub steps: usize,
     pub used: usize,
     pub forks: usize,
     pub paths: u64,
     pub at: Corners,
+}
+
+impl Standing {
+    // At a group, after so many steps and with so many entries in use.
+    fn at_group(self, steps: usize, used: usize, at: Corners) -> Standing
+        ensures { λ r. ⌜ r ≡ standing AtGroup steps used (self .forks) (self .paths) at ⌝ }
+    {
+        Standing {
+            phase: Phase::AtGroup,
+            steps,
+            used,
+            at,
+            ..self
+        }
+    }
+
+    // Stopped, with the answer whether a further path exists.
+    fn halted(self, more: bool) -> Standing
+        ensures { λ r. ⌜ r ≡ halted self more ⌝ }
+    {
+        Standing {
+            phase: Phase::Stopped { more },
+            ..self
+        }
+    }
+
+    fn is_going(self) -> bool
+        ensures { λ r. ⌜ r ≡ going (self .phase) ⌝ }
+    {
+        let p = self.phase;
+        match p {
+            Phase::AtGroup => true,
+            Phase::Between => true,
+            Phase::Stopped { more } => false,
+        }
+    }
+
+    fn is_at_group(self) -> bool
+        ensures { λ r. ⌜ r ≡ atGroup (self .phase) ⌝ }
+    {
+        let p = self.phase;
+        match p {
+            Phase::AtGroup => true,
+            Phase::Between => false,
+            Phase::Stopped { more } => false,
+        }
+    }
+
+    fn has_more(self) -> bool
+        ensures { λ r. ⌜ r ≡ more (self .phase) ⌝ }
+    {
+        let p = self.phase;
+        match p {
+            Phase::AtGroup => false,
+            Phase::Between => false,
+            Phase::Stopped { more } => more,
+        }
+    }
 }

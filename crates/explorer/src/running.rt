@@ -5,8 +5,9 @@ use decide::Used;
 use riscu::plain::Memory;
 use riscu::plain::Registers;
 use straight::steps::straight_steps;
-ghost use Rattle.lockstep.specs.Together.{machinesBefore, machinesAfter};
-ghost use Rattle.explorer.specs.Explored.{RunsOn};
+ghost use Rattle.riscu.specs.Lent.{lent};
+ghost use Rattle.lockstep.specs.Working.LockStep.{lentMachines};
+ghost use Rattle.explorer.specs.Working.Explored.{RunsOn};
 
 // Straight steps one after another. How many it takes is free: the turn that it stands in asks the whole decision next.
 pub(crate) fn run_straight(
@@ -21,9 +22,8 @@ pub(crate) fn run_straight(
     s: Standing,
 ) -> Standing
     ensures { λ r.
-        let x = machinesBefore low lowmem high highmem tags tagmem in
-        let y = machinesAfter low lowmem high highmem tags tagmem in
-        ⌜ RunsOn (now (code .entry)) limits s x r y ⌝ }
+        let m = lentMachines low lowmem high highmem tags tagmem in
+        ⌜ RunsOn (lent code) limits s (m .before) r (m .after) ⌝ }
 {
     let used = Used {
         steps: s.steps,
@@ -44,14 +44,5 @@ pub(crate) fn run_straight(
     );
     let u = r.used;
     let at = r.at;
-    Standing {
-        going: true,
-        running: true,
-        more: false,
-        steps: u.steps,
-        used: u.entries,
-        forks: s.forks,
-        paths: s.paths,
-        at,
-    }
+    s.at_group(u.steps, u.entries, at)
 }

@@ -1,4 +1,5 @@
 // One turn of an exploration, and the turns until it stops.
+use crate::Phase;
 use crate::Standing;
 use crate::branching::fork_on;
 use crate::branching::resume;
@@ -10,7 +11,9 @@ use decide::Limits;
 use decide::Used;
 use decide::group::decide;
 use decide::group::writes;
-use lockstep::together::advance;
+use listing::End;
+use lockstep::Corners;
+use lockstep::advancing::advance;
 use pages::Window;
 use pages::write_path;
 use riscu::Instruction;
@@ -18,12 +21,16 @@ use riscu::plain::Memory;
 use riscu::plain::Registers;
 ghost use mathlib.Core.Path.{_≡_};
 ghost use mathlib.Core.Bool.{true, false};
-ghost use Prim.Native.Nat.{_+_, _<_, _^_};
-ghost use lib.ListN.{drop};
-ghost use Rattle.lockstep.specs.Together.{both, machinesBefore, machinesAfter, advanced};
-ghost use Rattle.explorer.specs.Held.{jobAt, jobBefore, listsAt, listsBefore, listsAfter, stepped};
-ghost use Rattle.pages.specs.Page.{filled};
-ghost use Rattle.explorer.specs.Explored.{Explored, Going, Turned, halted};
+ghost use Prim.Native.Nat.{_+_, _≤_, _<_, _^_};
+ghost use lib.ListN.{length, drop};
+ghost use Rattle.riscu.specs.Lent.{lent, returned};
+ghost use Rattle.blocks.specs.Record.{mostInputs, recordBytes};
+ghost use Rattle.lockstep.specs.Working.LockStep.{both, lentMachines, advanced};
+ghost use Rattle.pages.specs.Working.Page.{endedPath, pageWith, filled};
+ghost use Rattle.explorer.specs.Working.Held.{jobAt, jobLent, listsAt, lentLists, listed, going, Held, stepped, ended};
+ghost use Rattle.explorer.specs.Working.Explored.{Explored, TurnedLent, TurnedBetween};
+ghost use Rattle.explorer.specs.Working.Finished.{begun};
+ghost use Rattle.explorer.specs.declared.Phase.the-variants.{AtGroup, Between};
 
 // One instruction further at both corners.
 fn step_on(
@@ -42,26 +49,46 @@ fn step_on(
     requires { ⌜ (s .steps + 1 < 2 ^ 64) × (s .used + 2 < 2 ^ 64) ⌝ }
     ensures { λ r. ⌜ r ≡ stepped limits s i (r .at) ⌝ }
     ensures { λ r.
-        let x = machinesBefore low lowmem high highmem tags tagmem in
-        let y = machinesAfter low lowmem high highmem tags tagmem in
-        ⌜ both (r .at) y ≡ advanced (now (lows .entry)) (now (highs .entry)) i (both (s .at) x) ⌝ }
+        let m = lentMachines low lowmem high highmem tags tagmem in
+        ⌜ both (r .at) (m .after) ≡ advanced (lent lows) (lent highs) i (both (s .at) (m .before)) ⌝ }
 {
     let at = s.at;
     let w = writes(at.low.reads < limits.inputs, i);
     let to = advance(i, low, lowmem, high, highmem, tags, tagmem, lows, highs, at);
+    s.at_group(s.steps + 1, s.used + w, to)
+}
+
+// The path that ends here is written, if the page has begun.
+fn end_path(
+    report: &mut [u8],
+    window: Window,
+    lows: &[u64],
+    highs: &[u64],
+    low: &Registers,
+    high: &Registers,
+    end: End,
+    s: Standing,
+) -> Standing
+    requires { ⌜ (length (now lows) ≤ mostInputs) × (length (now lows) ≡ length (now highs)) ⌝ }
+    requires { ⌜ filled (length (now lows)) window (s .paths) + recordBytes (length (now lows)) ≤ length (now report) ⌝ }
+    requires { ⌜ s .paths + 1 < 2 ^ 64 ⌝ }
+    ensures { λ r. ⌜ r ≡ ended s ⌝ }
+    ensures { λ r.
+        let p = endedPath (lent lows) (lent highs) (lent low) (lent high) (s .at .low) (s .steps) end in
+        ⌜ returned report ≡ pageWith window (s .paths) p (lent report) ⌝ }
+{
+    let at = s.at;
+    let n = s.paths;
+    let l = at.low;
+    write_path(report, window, n, end, s.steps, l, lows, highs, low, high);
     Standing {
-        going: true,
-        running: true,
-        more: false,
-        steps: s.steps + 1,
-        used: s.used + w,
-        forks: s.forks,
-        paths: s.paths,
-        at: to,
+        phase: Phase::Between,
+        paths: n + 1,
+        ..s
     }
 }
 
-// A turn at a group: it ends, goes on or forks.
+// A turn at a group by the whole decision: it ends, goes on or forks.
 fn group_turn(
     code: &[u32],
     memory: &Memory,
@@ -81,12 +108,11 @@ fn group_turn(
     s: Standing,
 ) -> Standing
     requires { let x = listsAt lows highs table low lowmem high highmem tags tagmem in
-        ⌜ Going (jobAt code memory intervals limits) limits window x (now report) s ⌝ }
-    requires { ⌜ s .running ≡ true ⌝ }
+        ⌜ Explored (jobAt code memory intervals limits) limits window x (now report) s ⌝ }
+    requires { ⌜ s .phase ≡ AtGroup ⌝ }
     ensures { λ r.
-        let x = listsBefore lows highs table low lowmem high highmem tags tagmem in
-        let y = listsAfter lows highs table low lowmem high highmem tags tagmem in
-        ⌜ Turned (jobBefore code memory intervals limits) limits window x (now (report .entry)) s y (now (report .exit)) r ⌝ }
+        let z = lentLists lows highs table low lowmem high highmem tags tagmem in
+        ⌜ TurnedLent (jobLent code memory intervals limits) limits window z report s r ⌝ }
 {
     let at = s.at;
     let used = Used {
@@ -95,30 +121,7 @@ fn group_turn(
     };
     let d = decide(code, limits, used, at.low, low, high);
     match d {
-        Decision::Ended(e) => {
-            write_path(
-                report,
-                window,
-                s.paths,
-                e,
-                s.steps,
-                at.low,
-                lows,
-                highs,
-                low,
-                high,
-            );
-            Standing {
-                going: true,
-                running: false,
-                more: false,
-                steps: s.steps,
-                used: s.used,
-                forks: s.forks,
-                paths: s.paths + 1,
-                at,
-            }
-        }
+        Decision::Ended(e) => end_path(report, window, lows, highs, low, high, e, s),
         Decision::Steps(i) => step_on(
             limits,
             lows,
@@ -152,25 +155,71 @@ fn group_turn(
     }
 }
 
-// It stops, with the answer whether a further path exists.
-fn halt(s: Standing, more: bool) -> Standing
-    ensures { λ r. ⌜ r ≡ halted s more ⌝ }
+// A turn between two groups: a fork with nothing left goes, and what is left of the latest one is taken up unless the page is full.
+// With no fork left, or with the page full, it stops.
+fn rest_turn(
+    code: &[u32],
+    memory: &Memory,
+    intervals: &[u64],
+    limits: Limits,
+    window: Window,
+    lows: &mut [u64],
+    highs: &mut [u64],
+    table: &mut [u64],
+    low: &mut Registers,
+    lowmem: &mut Memory,
+    high: &mut Registers,
+    highmem: &mut Memory,
+    tags: &mut Registers,
+    tagmem: &mut Memory,
+    s: Standing,
+) -> Standing
+    requires { let j = jobAt code memory intervals limits in
+        ⌜ Held j limits (listed j s) (listsAt lows highs table low lowmem high highmem tags tagmem) s ⌝ }
+    requires { ⌜ s .phase ≡ Between ⌝ }
+    ensures { λ r.
+        let z = lentLists lows highs table low lowmem high highmem tags tagmem in
+        ⌜ TurnedBetween (jobLent code memory intervals limits) limits window (z .before) s (z .after) r ⌝ }
 {
-    let at = s.at;
-    Standing {
-        going: false,
-        running: false,
-        more,
-        steps: s.steps,
-        used: s.used,
-        forks: s.forks,
-        paths: s.paths,
-        at,
+    if s.forks == 0 {
+        return s.halted(false);
     }
+    let below = s.forks - 1;
+    let f = top(table, below);
+    if f.spent {
+        let input = f.input;
+        set_interval(lows, highs, input, f.low, f.high);
+        return Standing {
+            phase: Phase::Between,
+            steps: f.steps,
+            used: f.used,
+            forks: below,
+            ..s
+        };
+    }
+    if s.paths == window.end {
+        return s.halted(true);
+    }
+    resume(
+        code,
+        memory,
+        intervals,
+        limits,
+        lows,
+        highs,
+        table,
+        low,
+        lowmem,
+        high,
+        highmem,
+        tags,
+        tagmem,
+        f,
+        s,
+    )
 }
 
-// A turn. At a group straight steps come first, and then the whole decision is asked.
-// Between two groups a fork with nothing left goes, and what is left of the latest one is taken up unless the page is full.
+// A turn. At a group straight steps come first.
 fn turn(
     code: &[u32],
     memory: &Memory,
@@ -190,13 +239,13 @@ fn turn(
     s: Standing,
 ) -> Standing
     requires { let x = listsAt lows highs table low lowmem high highmem tags tagmem in
-        ⌜ Going (jobAt code memory intervals limits) limits window x (now report) s ⌝ }
+        ⌜ Explored (jobAt code memory intervals limits) limits window x (now report) s ⌝ }
+    requires { ⌜ going (s .phase) ≡ true ⌝ }
     ensures { λ r.
-        let x = listsBefore lows highs table low lowmem high highmem tags tagmem in
-        let y = listsAfter lows highs table low lowmem high highmem tags tagmem in
-        ⌜ Turned (jobBefore code memory intervals limits) limits window x (now (report .entry)) s y (now (report .exit)) r ⌝ }
+        let z = lentLists lows highs table low lowmem high highmem tags tagmem in
+        ⌜ TurnedLent (jobLent code memory intervals limits) limits window z report s r ⌝ }
 {
-    if s.running {
+    if s.is_at_group() {
         let to = run_straight(code, limits, low, lowmem, high, highmem, tags, tagmem, s);
         return group_turn(
             code,
@@ -217,34 +266,12 @@ fn turn(
             to,
         );
     }
-    if s.forks == 0 {
-        return halt(s, false);
-    }
-    let below = s.forks - 1;
-    let f = top(table, below);
-    if f.spent {
-        let at = s.at;
-        let input = f.input;
-        set_interval(lows, highs, input, f.low, f.high);
-        return Standing {
-            going: true,
-            running: false,
-            more: false,
-            steps: f.steps,
-            used: f.used,
-            forks: below,
-            paths: s.paths,
-            at,
-        };
-    }
-    if s.paths == window.end {
-        return halt(s, true);
-    }
-    resume(
+    rest_turn(
         code,
         memory,
         intervals,
         limits,
+        window,
         lows,
         highs,
         table,
@@ -258,7 +285,7 @@ fn turn(
     )
 }
 
-// Turns until it stops.
+// Turns from the first group until it stops.
 pub(crate) fn run_turns(
     code: &[u32],
     memory: &Memory,
@@ -275,18 +302,25 @@ pub(crate) fn run_turns(
     highmem: &mut Memory,
     tags: &mut Registers,
     tagmem: &mut Memory,
-    from: Standing,
+    at: Corners,
 ) -> Standing
     requires { let x = listsAt lows highs table low lowmem high highmem tags tagmem in
-        ⌜ Explored (jobAt code memory intervals limits) limits window x (now report) from ⌝ }
+        ⌜ Explored (jobAt code memory intervals limits) limits window x (now report) (begun at) ⌝ }
     ensures { λ r.
-        let y = listsAfter lows highs table low lowmem high highmem tags tagmem in
-        ⌜ Explored (jobBefore code memory intervals limits) limits window y (now (report .exit)) r ⌝ }
-    ensures { λ r. ⌜ r .going ≡ false ⌝ }
-    ensures { λ r. let n = filled (limits .inputs) window (r .paths) in ⌜ drop n (now (report .exit)) ≡ drop n (now (report .entry)) ⌝ }
+        let z = lentLists lows highs table low lowmem high highmem tags tagmem in
+        ⌜ Explored (jobLent code memory intervals limits) limits window (z .after) (returned report) r ⌝ }
+    ensures { λ r. ⌜ going (r .phase) ≡ false ⌝ }
+    ensures { λ r. let n = filled (limits .inputs) window (r .paths) in ⌜ drop n (returned report) ≡ drop n (lent report) ⌝ }
 {
-    let mut s = from;
-    while s.going {
+    let mut s = Standing {
+        phase: Phase::AtGroup,
+        steps: 0,
+        used: 0,
+        forks: 0,
+        paths: 0,
+        at,
+    };
+    while s.is_going() {
         s = turn(
             code,
             memory,

@@ -13,10 +13,10 @@ use Rattle.listing.specs.Group.{Job, Group}
 use Rattle.listing.specs.Listing.{Path, listing}
 use Rattle.blocks.specs.Record.{recordBytes}
 use Rattle.calls.specs.Call.{Call, inputsOf, page}
-use Rattle.forks.specs.Stack.{Fork, Resting}
+use Rattle.forks.specs.Working.Stack.{Fork, Resting}
 use Rattle.forks.proofs.Positions.{paths-first, more, finish}
 use Rattle.forks.proofs.Turns.{rest-waits}
-use Rattle.corners.specs.Good.{Sound}
+use Rattle.corners.specs.Working.Good.{Sound}
 
 module _ (j : Job) (sound : Sound j (j .box)) (c : Call) {n : ℕ} {ps : List Path} {g : Group} where
   pub page-ended : Resting j n ps g [] → length ps ≤ c .first + length (c .report) / recordBytes (inputsOf c)

@@ -4,7 +4,8 @@ use mathlib.Core.Path.{_≡_, sym, _∙_}
 use mathlib.Core.List.{map}
 use Prim.Native.Nat.{_+_}
 use lib.ListN.{length}
-use Rattle.boxes.specs.Boxes.{Box, Proper, pieces, lows, Within}
+use Rattle.boxes.specs.Boxes.{Box, pieces, lows, Within}
+use Rattle.boxes.specs.Working.Cuts.{Proper}
 use Rattle.boxes.proofs.Choices.{lows-inside, inside-length}
 use Rattle.riscu.specs.Machine.{fetch}
 use Rattle.riscu.specs.declared.Instruction.{Instruction}
@@ -14,9 +15,9 @@ use Rattle.listing.specs.Listing.{later}
 use Rattle.corners.proofs.Smooth.{smooth-within}
 use Rattle.corners.proofs.Corner.{good-uniform}
 use Rattle.corners.proofs.Moves.{sound-part}
-use Rattle.forks.specs.Stack.{written, restBy, restOf}
-use Rattle.corners.specs.Smooth.{Followed}
-use Rattle.corners.specs.Good.{Good, lowState}
+use Rattle.forks.specs.Working.Stack.{written, restBy, restOf}
+use Rattle.corners.specs.Working.Smooth.{Followed}
+use Rattle.corners.specs.Working.Good.{Good, lowState}
 
 -- a group on another box
 abbrev pub onBox : Group → Box → Group

@@ -22,14 +22,14 @@ use Rattle.corners.proofs.Moves.{continues}
 use Rattle.corners.proofs.Enough.{weight-falls, steps-in-limit}
 use Rattle.corners.proofs.CornerListing.{corner-moves, listing-is}
 use Rattle.paths.proofs.Pages.{listing-further}
-use Rattle.forks.specs.Stack.{Fork, before, left, waitingOf, Stacked, Running, Resting}
-use Rattle.forks.specs.Turn.{Position, running, resting, Turn, straight, forking, ending, dropping, whole-rest, first-part, Reached}
-use Rattle.forks.specs.Turn.{begins, turns}
-use Rattle.forks.specs.Turn.{stateOf, movesAfter, Represents}
+use Rattle.forks.specs.Working.Stack.{Fork, before, left, waitingOf, Stacked, Running, Resting}
+use Rattle.forks.specs.Working.Turn.{Position, running, resting, Turn, straight, forking, ending, dropping, whole-rest, first-part, Reached}
+use Rattle.forks.specs.Working.Turn.{begins, turns}
+use Rattle.forks.specs.Working.Turn.{stateOf, movesAfter, Represents}
 use Rattle.forks.proofs.Turns.{starts, ends, goes-straight, goes-forking, drops, takes-whole, takes-first, now-one, known-fork}
 use Rattle.forks.proofs.Turns.{rest-within, rest-proper, rest-one, rest-waits, rest-some}
 use Rattle.forks.proofs.Parts.{fetched-part}
-use Rattle.corners.specs.Good.{Sound, lowState, highState, cornersOf, weight}
+use Rattle.corners.specs.Working.Good.{Sound, lowState, highState, cornersOf, weight}
 
 -- the tie: a step of the explorer leads from a state of the listing to a state of the listing
 pub turn-represents : {j : Job} {s t : Position} (n : ℕ) → Turn j s t → Represents j n s → Represents j (movesAfter s n) t

@@ -11,9 +11,9 @@ use lib.ListN.{length, getD, set}
 use lib.Dec.{eqb}
 use lib.Seq.{sets, getD-set-same, getD-set-other}
 use Rattle.boxes.proofs.Places.{sets-before, sets-at}
-use Rattle.forks.specs.Stack.{Fork, withRest, spend}
+use Rattle.forks.specs.Working.Stack.{Fork, withRest, spend}
 use Rattle.calls.specs.Limits.{entryWords}
-use Rattle.forks.specs.Table.{wordAt, HasEntry, forkIn, forksIn, OnTop, entryOf}
+use Rattle.forks.specs.Working.Table.{wordAt, HasEntry, forkIn, forksIn, OnTop, entryOf}
 
 -- an entry goes by its seven words
 pub fork-cong : (t v : List ℕ) (k : ℕ) → ((w : ℕ) → w < 7 → wordAt v k w ≡ wordAt t k w) → forkIn v k ≡ forkIn t k

@@ -14,8 +14,8 @@ use lib.Dec.{eqb}
 use lib.ListN.{length, length-set, length-map, set}
 use lib.Seq.{set-set, set-getD, getD-set-same}
 use borrow.Author.Tests.{eq-eqb, ne-eqb}
-use Rattle.boxes.specs.Boxes.{Choice, _⋯_, Box, at, Proper, pieces, lows, highs, Within}
-use Rattle.boxes.specs.Cuts.{OneInput, below, above, Edge}
+use Rattle.boxes.specs.Boxes.{Choice, _⋯_, Box, at, pieces, lows, highs, Within}
+use Rattle.boxes.specs.Working.Cuts.{Proper, OneInput, below, above, Edge}
 use Rattle.boxes.proofs.Places.{nonempty}
 use Rattle.boxes.proofs.Choices.{lows-inside, highs-inside, inside-set}
 use Rattle.boxes.proofs.OneInput.{constant-corner, one-input-convex, one-input-same, one-input-within}
@@ -31,12 +31,12 @@ use Rattle.listing.specs.declared.End.{End}
 use Rattle.corners.proofs.Corner.{class-one, end-agrees}
 use Rattle.corners.proofs.Moves.{continues, followed, good-later}
 use Rattle.corners.proofs.CornerListing.{path-agrees}
-use Rattle.forks.specs.Stack.{Fork, before, left, forkAt, restAt, shorten, spend, written, restBy, restOf, waitingOf, Forked, Stacked}
-use Rattle.forks.specs.Stack.{Running, Resting}
-use Rattle.forks.specs.Turn.{classAt, Fetches, OneClass, EdgeAt, Cuttable}
+use Rattle.forks.specs.Working.Stack.{Fork, before, left, forkAt, restAt, shorten, spend, written, restBy, restOf, waitingOf, Forked, Stacked}
+use Rattle.forks.specs.Working.Stack.{Running, Resting}
+use Rattle.forks.specs.Working.Turn.{classAt, Fetches, OneClass, EdgeAt, Cuttable}
 use Rattle.forks.proofs.Parts.{good-part, written-part, fetched-part, rest-part}
-use Rattle.corners.specs.Smooth.{Same, Followed}
-use Rattle.corners.specs.Good.{Sound, Good, lowState, highState, inputOf, cornersOf}
+use Rattle.corners.specs.Working.Smooth.{Same, Followed}
+use Rattle.corners.specs.Working.Good.{Sound, Good, lowState, highState, inputOf, cornersOf}
 
 -- the class is the same all over where it is at the corners, and below an edge; the corners differ where there is an edge
 

@@ -8,33 +8,24 @@ use Prim.Native.Nat.{ℕ, _%_, _≤_}
 use borrow.Author.Tests.{leb-true, eqb-true, not-false}
 use lib.Dec.{leb, eqb}
 use lib.ListN.{length}
-use Rattle.riscu.specs.Limits.{codeWords, memoryWords}
+use Rattle.riscu.specs.Limits.{codeWords}
 use Rattle.blocks.specs.Block.{blockBytes, checksAgree}
-use Rattle.blocks.specs.Record.{mostInputs}
-use Rattle.jobs.specs.Job.{codeCount, inputCount, givenCount, wholeBlocks, codeFits, inputsFit, ordered, limitFits, memoryFits, firstFits, wellFormed, headerAsks, jobAsks, jobRefusalOf}
-use Rattle.jobs.specs.Reading.{Whole, Sized}
+use Rattle.calls.specs.Call.{boxOf}
+use Rattle.calls.specs.Questions.{codeFits, inputsFit, inOrder, limitFits, firstFits}
 use Rattle.calls.proofs.Asked.{passed}
+use Rattle.jobs.specs.Job.{codeCount, inputCount, stepLimit, firstPath, givenCount, intervalsIn, wholeBlocks, givenFits, wellFormed, headerQuestions, jobQuestions, jobRefusalOf}
+use Rattle.jobs.specs.Working.Reading.{Whole, Sized}
 
 pub both : (a b : Bool) → a && b ≡ true → (a ≡ true) × (b ≡ true)
 both a b = and-eq-true-iff a b .0
 
 -- what the questions on the counts leave
-module _ (bytes : List ℕ) where
-  pub whole-left : wholeBlocks bytes ≡ true → Whole bytes
-  unfolding wholeBlocks
-  whole-left e = eqb-true _ _ (both (eqb (length bytes % blockBytes) 0) _ e .0)
+pub whole-left : (bytes : List ℕ) → wholeBlocks bytes ≡ true → Whole bytes
+unfolding wholeBlocks
+whole-left bytes e = eqb-true _ _ (both (eqb (length bytes % blockBytes) 0) _ e .0)
 
-  pub code-left : codeFits bytes ≡ true → codeCount bytes ≤ codeWords
-  unfolding codeFits
-  code-left e = leb-true _ _ (both (leb 1 (codeCount bytes)) _ e .1)
-
-  pub inputs-left : inputsFit bytes ≡ true → inputCount bytes ≤ mostInputs
-  unfolding inputsFit
-  inputs-left e = leb-true _ _ e
-
-  pub memory-left : memoryFits bytes ≡ true → givenCount bytes ≤ memoryWords
-  unfolding memoryFits
-  memory-left e = leb-true _ _ e
+pub code-left : (n : ℕ) → codeFits n ≡ true → n ≤ codeWords
+code-left n e = leb-true _ _ (both (leb 1 n) _ e .1)
 
 -- a code's answer that was yes
 pub yes : {t b : Bool} → t ≡ b → not t ≡ false → b ≡ true
@@ -43,16 +34,16 @@ yes {t} e y = sym e ∙ not-false t y
 pub record Passed (bytes : List ℕ) : Type 0 where
   pub whole : wholeBlocks bytes ≡ true
   pub checks : checksAgree bytes ≡ true
-  pub code : codeFits bytes ≡ true
-  pub inputs : inputsFit bytes ≡ true
-  pub order : ordered bytes ≡ true
-  pub limit : limitFits bytes ≡ true
-  pub memory : memoryFits bytes ≡ true
-  pub first : firstFits bytes ≡ true
+  pub code : codeFits (codeCount bytes) ≡ true
+  pub inputs : inputsFit (inputCount bytes) ≡ true
+  pub order : inOrder (boxOf (intervalsIn bytes)) ≡ true
+  pub limit : limitFits (stepLimit bytes) ≡ true
+  pub memory : givenFits (givenCount bytes) ≡ true
+  pub first : firstFits (firstPath bytes) ≡ true
   pub form : wellFormed bytes ≡ true
 
 pub yes-passed : (bytes : List ℕ) → jobRefusalOf bytes ≡ none → Passed bytes
-unfolding jobRefusalOf jobAsks headerAsks
+unfolding jobQuestions headerQuestions
 yes-passed bytes e =
     let (q1, e1) = passed _ _ _ e in
     let (q2, e2) = passed _ _ _ e1 in
@@ -70,7 +61,7 @@ yes-sized bytes e =
     let p = yes-passed bytes e in
     record {
       whole = whole-left bytes (p .whole);
-      code = code-left bytes (p .code);
-      inputs = inputs-left bytes (p .inputs);
-      given = memory-left bytes (p .memory);
+      code = code-left (codeCount bytes) (p .code);
+      inputs = leb-true _ _ (p .inputs);
+      given = leb-true _ _ (p .memory);
     }

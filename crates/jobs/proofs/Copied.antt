@@ -11,7 +11,7 @@ use lib.Seq.{sets, sets-eq, ext-getD}
 use Rattle.boxes.specs.Boxes.{from}
 use Rattle.boxes.proofs.Lists.{length-from, from-at}
 use Rattle.blocks.proofs.Rows.{drop-zeros}
-use Rattle.jobs.specs.Reading.{over}
+use Rattle.jobs.specs.Working.Reading.{over}
 
 -- `count` words, at most `most`, are copied over the old ones from a place on, by a rule
 module _ (place : ℕ) (f : ℕ → ℕ) (most count : ℕ) (old : List ℕ) where

@@ -1,14 +1,15 @@
 -- Document 01's Job A in blocks is read as it stands there, and changes of it are refused. Assumes nothing.
 use mathlib.Core.Path.{_≡_, refl}
 use mathlib.Core.List.{List, [], _∷_, _++_, flatMap}
-use mathlib.Core.Option.{Option, none, some}
 use Prim.Native.Nat.{ℕ, _+_, _*_, _^_}
 use lib.ListN.{set, drop, replicate}
 use Rattle.boxes.specs.Boxes.{from}
 use Rattle.blocks.specs.Block.{bytesOf, numberOf, checkFrom, block, each, checksAgree}
-use Rattle.calls.specs.Call.{boxOf, inOrder, firstNo}
-use Rattle.jobs.specs.Job.{payloadAt, codeAt, intervalAt, codeIn, intervalsIn, memoryIn, jobRead, wholeBlocks, codeFits, inputsFit, ordered, limitFits, memoryFits, firstFits, zeroWords, zeroHalves, unusedZero, wellFormed, headerAsks, jobAsks, jobRefusalOf, jobNumber}
-use Rattle.jobs.specs.declared.JobRefusal.{JobRefusal}
+use Rattle.listing.specs.First.{first}
+use Rattle.calls.specs.Call.{boxOf}
+use Rattle.calls.specs.Questions.{inOrder}
+use Rattle.calls.specs.Border.{refusedNumber}
+use Rattle.jobs.specs.Job.{payloadAt, codeAt, intervalAt, codeIn, intervalsIn, memoryIn, jobRead, wholeBlocks, zeroWords, zeroHalves, unusedZero, wellFormed, headerQuestions, jobQuestions, jobRefusalOf}
 
 unfoldable pub header : List ℕ
 header = 1 ∷ 8 ∷ 1 ∷ 100 ∷ 0 ∷ 0 ∷ 0 ∷ 0 ∷ 0 ∷ 0 ∷ 0 ∷ 0 ∷ 0 ∷ 255 ∷ replicate 8 0
@@ -32,12 +33,8 @@ unfoldable pub changedTwice : ℕ → ℕ → ℕ → ℕ → List ℕ
 changedTwice k v l w = block (set (set header k v) l w) ++ block words
 
 -- the number that a job is refused with, or 0
-unfoldable pub refused : Option JobRefusal → ℕ
-refused none = 0
-refused (some r) = jobNumber r
-
 unfoldable pub answer : List ℕ → ℕ
-answer bytes = refused (jobRefusalOf bytes)
+answer bytes = refusedNumber (jobRefusalOf bytes)
 
 unfoldable pub answers : List ℕ
 answers =
@@ -66,7 +63,7 @@ answers =
     ∷ []
 
 pub job-a-answers : answers ≡ 0 ∷ 9 ∷ 10 ∷ 1 ∷ 2 ∷ 3 ∷ 4 ∷ 6 ∷ 8 ∷ 11 ∷ 11 ∷ 11 ∷ 11 ∷ 9 ∷ 10 ∷ 1 ∷ 2 ∷ 3 ∷ 4 ∷ 6 ∷ 8 ∷ []
-unfolding answers answer refused changed changedTwice header words jobRefusalOf jobAsks headerAsks firstNo wholeBlocks checksAgree each checkFrom bytesOf numberOf block codeFits inputsFit ordered inOrder boxOf intervalsIn intervalAt limitFits memoryFits firstFits wellFormed unusedZero zeroWords zeroHalves payloadAt codeAt from flatMap
+unfolding answers answer changed changedTwice header words jobQuestions headerQuestions first wholeBlocks checksAgree each checkFrom bytesOf numberOf block inOrder boxOf intervalsIn intervalAt wellFormed unusedZero zeroWords zeroHalves payloadAt codeAt from flatMap
 job-a-answers = refl
 
 pub job-a-read : jobRead (block header ++ block words) ≡ record { code = code; intervals = 0 ∷ 255 ∷ []; limit = 100; first = 0; memory = replicate 512 0 }

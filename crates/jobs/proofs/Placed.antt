@@ -8,7 +8,7 @@ use borrow.Author.Tests.{eq-eqb, ne-eqb}
 use lib.Dec.{eqb}
 use lib.ListN.{length, drop-of-length-le}
 use Rattle.blocks.specs.Block.{wordBytes, numberOf, wordAt}
-use Rattle.jobs.specs.Reading.{Whole}
+use Rattle.jobs.specs.Working.Reading.{Whole}
 
 -- past the end of whole blocks a word is 0
 pub word-past : (bytes : List ℕ) (k : ℕ) → Whole bytes → length bytes / wordBytes ≤ k → 0 ≡ wordAt bytes k

@@ -41,7 +41,7 @@ module _ (job : List ℕ) (bytes : Below (2 ^ 8) job) where
   code-below : (i : ℕ) → codeAt job i < 2 ^ 32
   unfolding codeAt
   code-below i =
-      let l = payload-below firstCode (i / 2) in
+      let l = payload-below (firstCode (inputCount job)) (i / 2) in
       by-test (eqb (i % 2) 0) (λ e. rw e (omega arith)) (λ e. rw e (omega arith))
 
   interval-below : (i : ℕ) → intervalAt job i < 2 ^ 64

@@ -1,5 +1,5 @@
 -- Document 01's places of the words in a job's header block.
-use Prim.Native.Nat.{ℕ}
+use Prim.Native.Nat.{ℕ, _+_}
 
 abbrev pub mark : ℕ
 mark = 0
@@ -33,3 +33,10 @@ given = 21
 -- from here on every word is 0
 abbrev pub rest : ℕ
 rest = 22
+
+-- the places of input i's low and high, in the header of a job of n inputs
+abbrev pub lowAt : ℕ → ℕ → ℕ
+lowAt n i = lows + i
+
+abbrev pub highAt : ℕ → ℕ → ℕ
+highAt n i = highs + i

@@ -1,22 +1,20 @@
 -- A job is a header block, code blocks, then memory blocks: where its parts stand, the questions on it, and what is read.
 use Prim.Native.Nat.{ℕ, _+_, _-_, _*_, _/_, _%_, _^_}
-use mathlib.Core.Bool.{Bool, true, cond, _&&_}
+use mathlib.Core.Bool.{Bool, cond, _&&_}
 use mathlib.Core.List.{List, [], _∷_, _++_, map}
 use mathlib.Core.Option.{Option}
-use lib.Dec.{ltb, leb, eqb}
+use lib.Dec.{leb, eqb}
 use lib.ListN.{length, replicate}
 use Rattle.boxes.specs.Boxes.{from}
-use Rattle.riscu.specs.Limits.{codeWords, memoryWords}
+use Rattle.riscu.specs.Limits.{memoryWords}
+use Rattle.listing.specs.First.{first}
 use Rattle.blocks.specs.Block.{blockWords, blockBytes, payloadWords, wordAt, blockCount, each, checksAgree}
-use Rattle.blocks.specs.Record.{mostInputs}
 use Rattle.calls.specs.Call as call
-use Rattle.calls.specs.Call.{callOf, number, boxOf, inOrder, firstNo}
-use Rattle.calls.specs.Limits.{mostSteps, firstEnd}
+use Rattle.calls.specs.Call.{callOf, boxOf}
+use Rattle.calls.specs.Questions.{Question, _otherwise_, codeFits, inputsFit, inOrder, limitFits, firstFits}
 use Rattle.calls.specs.declared.Refusal.{Refusal}
-use Rattle.calls.specs.declared.Refusal.the-variants.{Code, Inputs, Order, Limit, Table, Memory, Report, First}
+use Rattle.calls.specs.declared.Refusal.the-variants.{Code, Inputs, Order, Limit, Memory, First, Blocks, Check, Form}
 use Rattle.jobs.specs.Header as header
-use Rattle.jobs.specs.declared.JobRefusal.{JobRefusal}
-use Rattle.jobs.specs.declared.JobRefusal.the-variants.{Blocks, Check, Call, Form}
 
 -- The words of the header.
 
@@ -36,10 +34,10 @@ abbrev pub firstPath : List ℕ → ℕ
 firstPath bytes = wordAt bytes header.first
 
 abbrev pub lowOf : List ℕ → ℕ → ℕ
-lowOf bytes i = wordAt bytes (header.lows + i)
+lowOf bytes i = wordAt bytes (header.lowAt (inputCount bytes) i)
 
 abbrev pub highOf : List ℕ → ℕ → ℕ
-highOf bytes i = wordAt bytes (header.highs + i)
+highOf bytes i = wordAt bytes (header.highAt (inputCount bytes) i)
 
 -- memory words given
 abbrev pub givenCount : List ℕ → ℕ
@@ -61,15 +59,16 @@ codePayload words = (words + 1) / 2
 abbrev pub codeBlocks : List ℕ → ℕ
 codeBlocks bytes = blocksFor (codePayload (codeCount bytes))
 
-abbrev pub firstCode : ℕ
-firstCode = 1
+-- the block that the code begins with, in a job of n inputs: the header holds them all
+abbrev pub firstCode : ℕ → ℕ
+firstCode n = 1
 
 abbrev pub firstMemory : List ℕ → ℕ
-firstMemory bytes = firstCode + codeBlocks bytes
+firstMemory bytes = firstCode (inputCount bytes) + codeBlocks bytes
 
--- the blocks of a job with so many code words and memory words given
-abbrev pub blocksNeeded : ℕ → ℕ → ℕ
-blocksNeeded code given = firstCode + blocksFor (codePayload code) + blocksFor given
+-- the blocks of a job with so many inputs, code words and memory words given
+abbrev pub blocksNeeded : ℕ → ℕ → ℕ → ℕ
+blocksNeeded n code given = firstCode n + blocksFor (codePayload code) + blocksFor given
 
 abbrev pub memoryBlocks : List ℕ → ℕ
 memoryBlocks bytes = blocksFor (givenCount bytes)
@@ -79,7 +78,7 @@ abbrev pub half : ℕ → ℕ → ℕ
 half j w = cond (eqb (j % 2) 0) (w % 2 ^ 32) (w / 2 ^ 32)
 
 unfoldable pub codeAt : List ℕ → ℕ → ℕ
-codeAt bytes j = half j (payloadAt bytes firstCode (j / 2))
+codeAt bytes j = half j (payloadAt bytes (firstCode (inputCount bytes)) (j / 2))
 
 -- memory word i
 abbrev pub memoryAt : List ℕ → ℕ → ℕ
@@ -133,24 +132,11 @@ mostBlocks = 19
 unfoldable pub wholeBlocks : List ℕ → Bool
 wholeBlocks bytes = eqb (length bytes % blockBytes) 0 && (leb 1 (blockCount bytes) && leb (blockCount bytes) mostBlocks)
 
--- 10: every check agrees (checksAgree); 1, 2, 3, 4, 6, 8 on the header
-unfoldable pub codeFits : List ℕ → Bool
-codeFits bytes = leb 1 (codeCount bytes) && leb (codeCount bytes) codeWords
+-- 10: every check agrees (checksAgree)
 
-unfoldable pub inputsFit : List ℕ → Bool
-inputsFit bytes = leb (inputCount bytes) mostInputs
-
-unfoldable pub ordered : List ℕ → Bool
-ordered bytes = inOrder (boxOf (intervalsIn bytes))
-
-unfoldable pub limitFits : List ℕ → Bool
-limitFits bytes = leb 1 (stepLimit bytes) && leb (stepLimit bytes) mostSteps
-
-unfoldable pub memoryFits : List ℕ → Bool
-memoryFits bytes = leb (givenCount bytes) memoryWords
-
-unfoldable pub firstFits : List ℕ → Bool
-firstFits bytes = ltb (firstPath bytes) firstEnd
+-- 6: the memory words given are at most 512
+abbrev pub givenFits : ℕ → Bool
+givenFits words = leb words memoryWords
 
 -- 11: word 0 equal to 1, the block count as the header needs, each unused word and half 0
 abbrev pub zeroWord : List ℕ → ℕ → ℕ → Bool
@@ -178,37 +164,25 @@ unusedZero bytes =
 unfoldable pub wellFormed : List ℕ → Bool
 wellFormed bytes =
     eqb (mark bytes) header.markWord
-    && (eqb (blockCount bytes) (blocksNeeded (codeCount bytes) (givenCount bytes)) && unusedZero bytes)
+    && (eqb (blockCount bytes) (blocksNeeded (inputCount bytes) (codeCount bytes) (givenCount bytes)) && unusedZero bytes)
 
--- the questions, each under the refusal that answers its no; of a call's questions those on the header
-unfoldable pub headerAsks : List ℕ → Refusal → Bool
-headerAsks bytes Code = codeFits bytes
-headerAsks bytes Inputs = inputsFit bytes
-headerAsks bytes Order = ordered bytes
-headerAsks bytes Limit = limitFits bytes
-headerAsks bytes Table = true
-headerAsks bytes Memory = memoryFits bytes
-headerAsks bytes Report = true
-headerAsks bytes First = firstFits bytes
+-- 1, 2, 3, 4, 6, 8 on the header
+unfoldable pub headerQuestions : List ℕ → List Question
+headerQuestions bytes =
+    (codeFits (codeCount bytes) otherwise Code)
+    ∷ (inputsFit (inputCount bytes) otherwise Inputs)
+    ∷ (inOrder (boxOf (intervalsIn bytes)) otherwise Order)
+    ∷ (limitFits (stepLimit bytes) otherwise Limit)
+    ∷ (givenFits (givenCount bytes) otherwise Memory)
+    ∷ (firstFits (firstPath bytes) otherwise First)
+    ∷ []
 
-unfoldable pub jobAsks : List ℕ → JobRefusal → Bool
-jobAsks bytes Blocks = wholeBlocks bytes
-jobAsks bytes Check = checksAgree bytes
-jobAsks bytes (Call r) = headerAsks bytes r
-jobAsks bytes Form = wellFormed bytes
-
-abbrev pub headerQuestions : List Refusal
-headerQuestions = Code ∷ Inputs ∷ Order ∷ Limit ∷ Memory ∷ First ∷ []
-
-abbrev pub jobQuestions : List JobRefusal
-jobQuestions = Blocks ∷ Check ∷ (map Call headerQuestions ++ (Form ∷ []))
+unfoldable pub jobQuestions : List ℕ → List Question
+jobQuestions bytes =
+    (wholeBlocks bytes otherwise Blocks)
+    ∷ (checksAgree bytes otherwise Check)
+    ∷ (headerQuestions bytes ++ ((wellFormed bytes otherwise Form) ∷ []))
 
 -- the first no decides
-unfoldable pub jobRefusalOf : List ℕ → Option JobRefusal
-jobRefusalOf bytes = firstNo (jobAsks bytes) jobQuestions
-
-abbrev pub jobNumber : JobRefusal → ℕ
-jobNumber Blocks = 9
-jobNumber Check = 10
-jobNumber (Call r) = number r
-jobNumber Form = 11
+abbrev pub jobRefusalOf : List ℕ → Option Refusal
+jobRefusalOf bytes = first (jobQuestions bytes)

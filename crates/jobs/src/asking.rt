@@ -1,6 +1,4 @@
 // The questions on a job, asked in document 01's order; the first no decides.
-use crate::JobQuestioned;
-use crate::JobRefusal;
 use crate::header::CODE_COUNT;
 use crate::header::FIRST_PATH;
 use crate::header::GIVEN_COUNT;
@@ -11,28 +9,35 @@ use crate::header::MARK;
 use crate::header::MARK_WORD;
 use crate::header::REST;
 use crate::header::STEP_LIMIT;
-use crate::words::FIRST_CODE;
 use crate::words::blocks_for;
 use crate::words::blocks_needed;
 use crate::words::code_payload;
 use crate::words::code_word;
-use crate::words::interval_word;
+use crate::words::first_code;
+use crate::words::input_count;
+use crate::words::intervals_in;
 use crate::words::payload_word;
 use crate::words::word;
 use blocks::BLOCK_BYTES;
 use blocks::MOST_INPUTS;
 use blocks::PAYLOAD_WORDS;
 use blocks::block::checks_agree;
+use calls::Questioned;
 use calls::Refusal;
-use calls::questions::CODE_WORDS;
-use calls::questions::FIRST_END;
-use calls::questions::MOST_STEPS;
+use calls::questions::code_fits;
+use calls::questions::first_fits;
+use calls::questions::in_order;
+use calls::questions::inputs_fit;
+use calls::questions::limit_fits;
 use riscu::plain::Machine;
 ghost use mathlib.Core.Path.{_≡_};
 ghost use Prim.Native.Nat.{_≤_, _<_};
 ghost use Rattle.blocks.specs.Record.{mostInputs};
-ghost use Rattle.jobs.specs.Job.{inputCount, wholeBlocks, codeFits, inputsFit, ordered, limitFits, memoryFits, firstFits, zeroWords, zeroHalves, unusedZero, wellFormed, jobRefusalOf};
-ghost use Rattle.jobs.specs.Reading.{jobRefusalIn, Whole, Sized};
+ghost use Rattle.calls.specs.Call.{boxOf};
+ghost use Rattle.calls.specs.Questions.{inOrder};
+ghost use Rattle.calls.specs.Working.Asking.{refusalIn};
+ghost use Rattle.jobs.specs.Job.{inputCount, intervalsIn, wholeBlocks, givenFits, zeroWords, zeroHalves, unusedZero, wellFormed, jobRefusalOf};
+ghost use Rattle.jobs.specs.Working.Reading.{Whole, Sized};
 
 // A header, and 1,024 code words and 512 memory words at most.
 const MOST_BLOCKS: usize = 19;
@@ -44,58 +49,21 @@ fn whole_blocks(bytes: &[u8]) -> bool
     (bytes.len() % BLOCK_BYTES == 0) & ((1 <= blocks) & (blocks <= MOST_BLOCKS))
 }
 
-fn code_fits(bytes: &[u8]) -> bool
-    requires { ⌜ Whole (now bytes) ⌝ }
-    ensures { λ r. ⌜ r ≡ codeFits (now (bytes .entry)) ⌝ }
-{
-    let n = word(bytes, CODE_COUNT);
-    (1 <= n) & (n <= CODE_WORDS as u64)
-}
-
-fn inputs_fit(bytes: &[u8]) -> bool
-    requires { ⌜ Whole (now bytes) ⌝ }
-    ensures { λ r. ⌜ r ≡ inputsFit (now (bytes .entry)) ⌝ }
-{
-    word(bytes, INPUT_COUNT) <= MOST_INPUTS as u64
-}
-
-// Whether each low in use is at most its high.
-fn in_order(bytes: &[u8]) -> bool
+// 3, of the intervals as they are read.
+fn ordered(bytes: &[u8]) -> bool
     requires { ⌜ Whole (now bytes) × (inputCount (now bytes) ≤ mostInputs) ⌝ }
-    ensures { λ r. ⌜ r ≡ ordered (now (bytes .entry)) ⌝ }
+    ensures { λ r. ⌜ r ≡ inOrder (boxOf (intervalsIn (now (bytes .entry)))) ⌝ }
 {
-    let n = word(bytes, INPUT_COUNT) as usize;
-    let mut k: usize = 0;
-    while k < n {
-        let low = interval_word(bytes, 2 * k);
-        if interval_word(bytes, 2 * k + 1) < low {
-            return false;
-        }
-        k += 1;
-    }
-    true
+    let n = 2 * input_count(bytes);
+    let words = intervals_in(bytes, [0u64; 2 * MOST_INPUTS]);
+    in_order(&words[..n])
 }
 
-fn limit_fits(bytes: &[u8]) -> bool
-    requires { ⌜ Whole (now bytes) ⌝ }
-    ensures { λ r. ⌜ r ≡ limitFits (now (bytes .entry)) ⌝ }
+// 6, of a header's count.
+fn given_fits(words: u64) -> bool
+    ensures { λ r. ⌜ r ≡ givenFits words ⌝ }
 {
-    let n = word(bytes, STEP_LIMIT);
-    (1 <= n) & (n <= MOST_STEPS)
-}
-
-fn memory_fits(bytes: &[u8]) -> bool
-    requires { ⌜ Whole (now bytes) ⌝ }
-    ensures { λ r. ⌜ r ≡ memoryFits (now (bytes .entry)) ⌝ }
-{
-    word(bytes, GIVEN_COUNT) <= Machine::MEMORY_WORDS as u64
-}
-
-fn first_fits(bytes: &[u8]) -> bool
-    requires { ⌜ Whole (now bytes) ⌝ }
-    ensures { λ r. ⌜ r ≡ firstFits (now (bytes .entry)) ⌝ }
-{
-    word(bytes, FIRST_PATH) < FIRST_END
+    words <= Machine::MEMORY_WORDS as u64
 }
 
 // Whether payload words i to e - 1 of the part that begins with a block are 0.
@@ -141,7 +109,12 @@ fn unused_zero(bytes: &[u8]) -> bool
     let highs = zero_words(bytes, 0, HIGHS + inputs, GIVEN_COUNT);
     let rest = zero_words(bytes, 0, REST, PAYLOAD_WORDS);
     let halves = zero_halves(bytes, n, 2 * PAYLOAD_WORDS * code);
-    let words = zero_words(bytes, FIRST_CODE + code, given, PAYLOAD_WORDS * memory);
+    let words = zero_words(
+        bytes,
+        first_code(inputs) + code,
+        given,
+        PAYLOAD_WORDS * memory,
+    );
     lows & (highs & (rest & (halves & words)))
 }
 
@@ -151,40 +124,40 @@ fn well_formed(bytes: &[u8]) -> bool
 {
     let n = word(bytes, CODE_COUNT) as usize;
     let given = word(bytes, GIVEN_COUNT) as usize;
-    let needed = blocks_needed(n, given);
+    let needed = blocks_needed(input_count(bytes), n, given);
     (word(bytes, MARK) == MARK_WORD) & ((bytes.len() / BLOCK_BYTES == needed) & unused_zero(bytes))
 }
 
-// The first question that is answered no.
-pub(crate) fn ask_job(bytes: &[u8]) -> JobQuestioned
-    ensures { λ r. ⌜ jobRefusalIn r ≡ jobRefusalOf (now (bytes .entry)) ⌝ }
+// The questions on a job, in their order.
+pub(crate) fn ask_job(bytes: &[u8]) -> Questioned
+    ensures { λ r. ⌜ refusalIn r ≡ jobRefusalOf (now (bytes .entry)) ⌝ }
 {
     if !whole_blocks(bytes) {
-        return JobQuestioned::No(JobRefusal::Blocks);
+        return Questioned::No(Refusal::Blocks);
     }
     if !checks_agree(bytes) {
-        return JobQuestioned::No(JobRefusal::Check);
+        return Questioned::No(Refusal::Check);
     }
-    if !code_fits(bytes) {
-        return JobQuestioned::No(JobRefusal::Call(Refusal::Code));
+    if !code_fits(word(bytes, CODE_COUNT)) {
+        return Questioned::No(Refusal::Code);
     }
-    if !inputs_fit(bytes) {
-        return JobQuestioned::No(JobRefusal::Call(Refusal::Inputs));
+    if !inputs_fit(word(bytes, INPUT_COUNT)) {
+        return Questioned::No(Refusal::Inputs);
     }
-    if !in_order(bytes) {
-        return JobQuestioned::No(JobRefusal::Call(Refusal::Order));
+    if !ordered(bytes) {
+        return Questioned::No(Refusal::Order);
     }
-    if !limit_fits(bytes) {
-        return JobQuestioned::No(JobRefusal::Call(Refusal::Limit));
+    if !limit_fits(word(bytes, STEP_LIMIT)) {
+        return Questioned::No(Refusal::Limit);
     }
-    if !memory_fits(bytes) {
-        return JobQuestioned::No(JobRefusal::Call(Refusal::Memory));
+    if !given_fits(word(bytes, GIVEN_COUNT)) {
+        return Questioned::No(Refusal::Memory);
     }
-    if !first_fits(bytes) {
-        return JobQuestioned::No(JobRefusal::Call(Refusal::First));
+    if !first_fits(word(bytes, FIRST_PATH)) {
+        return Questioned::No(Refusal::First);
     }
     if !well_formed(bytes) {
-        return JobQuestioned::No(JobRefusal::Form);
+        return Questioned::No(Refusal::Form);
     }
-    JobQuestioned::AllYes
+    Questioned::AllYes
 }

@@ -1,4 +1,8 @@
 // Document 01's places of the words in a job's header block.
+ghost use mathlib.Core.Path.{_≡_};
+ghost use Prim.Native.Nat.{_<_};
+ghost use Rattle.jobs.specs.Header.{lowAt, highAt};
+
 pub const MARK: usize = 0;
 
 // What it holds.
@@ -21,3 +25,19 @@ pub const GIVEN_COUNT: usize = 21;
 
 // From here on every word is 0.
 pub const REST: usize = 22;
+
+// The place of input i's low, in the header of a job of so many inputs.
+pub fn low_at(inputs: usize, i: usize) -> usize
+    requires { ⌜ i < 4096 ⌝ }
+    ensures { λ r. ⌜ r ≡ lowAt inputs i ⌝ }
+{
+    LOWS + i
+}
+
+// And of its high.
+pub fn high_at(inputs: usize, i: usize) -> usize
+    requires { ⌜ i < 4096 ⌝ }
+    ensures { λ r. ⌜ r ≡ highAt inputs i ⌝ }
+{
+    HIGHS + i
+}

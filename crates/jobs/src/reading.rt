@@ -1,35 +1,28 @@
 // What an accepted job holds, copied into what the caller lends.
 use crate::Counts;
 use crate::JobAnswer;
-use crate::JobQuestioned;
 use crate::asking::ask_job;
 use crate::header::CODE_COUNT;
 use crate::header::FIRST_PATH;
 use crate::header::GIVEN_COUNT;
 use crate::header::INPUT_COUNT;
 use crate::header::STEP_LIMIT;
-use crate::words::FIRST_CODE;
 use crate::words::blocks_for;
 use crate::words::code_payload;
 use crate::words::code_word;
-use crate::words::interval_word;
+use crate::words::first_code;
+use crate::words::input_count;
+use crate::words::intervals_in;
 use crate::words::payload_word;
 use crate::words::word;
 use blocks::MOST_INPUTS;
+use calls::Questioned;
 use calls::questions::CODE_WORDS;
 use riscu::plain::Machine;
 ghost use mathlib.Core.Path.{_≡_};
 ghost use mathlib.Core.Option.{none};
-ghost use Rattle.jobs.specs.Job.{inputCount, codeIn, intervalsIn, memoryIn, jobRefusalOf};
-ghost use Rattle.jobs.specs.Reading.{Whole, Sized, countsIn, over, leftIn, readInto};
-
-// The input count of a job of whole blocks.
-pub fn input_count(bytes: &[u8]) -> usize
-    requires { ⌜ Whole (now bytes) ⌝ }
-    ensures { λ r. ⌜ r ≡ inputCount (now (bytes .entry)) ⌝ }
-{
-    word(bytes, INPUT_COUNT) as usize
-}
+ghost use Rattle.jobs.specs.Job.{codeIn, memoryIn, jobRefusalOf};
+ghost use Rattle.jobs.specs.Working.Reading.{Sized, countsIn, over, leftIn, readInto};
 
 // The code words that the job gives, over the old ones.
 fn code_in(bytes: &[u8], old: [u32; CODE_WORDS]) -> [u32; CODE_WORDS]
@@ -46,27 +39,13 @@ fn code_in(bytes: &[u8], old: [u32; CODE_WORDS]) -> [u32; CODE_WORDS]
     words
 }
 
-// The intervals of the inputs, over the old ones.
-fn intervals_in(bytes: &[u8], old: [u64; 2 * MOST_INPUTS]) -> [u64; 2 * MOST_INPUTS]
-    requires { ⌜ Sized (now bytes) ⌝ }
-    ensures { λ r. ⌜ r ≡ over (intervalsIn (now (bytes .entry))) old ⌝ }
-{
-    let n = 2 * input_count(bytes);
-    let mut words = old;
-    let mut k: usize = 0;
-    while k < n {
-        words[k] = interval_word(bytes, k);
-        k += 1;
-    }
-    words
-}
-
 // The memory words given, and then 0.
 fn memory_in(bytes: &[u8]) -> [u64; Machine::MEMORY_WORDS]
     requires { ⌜ Sized (now bytes) ⌝ }
     ensures { λ r. ⌜ r ≡ memoryIn (now (bytes .entry)) ⌝ }
 {
-    let first = FIRST_CODE + blocks_for(code_payload(word(bytes, CODE_COUNT) as usize));
+    let first = first_code(input_count(bytes))
+        + blocks_for(code_payload(word(bytes, CODE_COUNT) as usize));
     let n = word(bytes, GIVEN_COUNT) as usize;
     let mut words = [0u64; Machine::MEMORY_WORDS];
     let mut k: usize = 0;
@@ -116,7 +95,7 @@ pub fn read_job(
     ensures { λ r. ⌜ leftIn r code intervals memory ≡ readInto bytes code intervals memory ⌝ }
 {
     let d = ask_job(bytes);
-    let JobQuestioned::No(r) = d else {
+    let Questioned::No(r) = d else {
         return accept(bytes, code, intervals, memory);
     };
     JobAnswer::Refused(r)

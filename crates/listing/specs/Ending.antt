@@ -5,7 +5,7 @@
 use Prim.Native.Nat.{ℕ, _+_, _-_, _%_}
 use mathlib.Core.Bool.{Bool, false, cond, not, _&&_, _||_}
 use mathlib.Core.List.{List, [], _∷_, _++_}
-use mathlib.Core.Option.{Option, none, some}
+use mathlib.Core.Option.{Option, some}
 use lib.Dec.{ltb, eqb}
 use lib.ListN.{length}
 use lib.IntN.{ℤ}
@@ -13,9 +13,11 @@ use Rattle.riscu.specs.Machine.{State, reg, offset, badPc, fetch}
 use Rattle.riscu.specs.declared.Operation.{Operation}
 use Rattle.riscu.specs.declared.Operation.the-variants.{Add, Sub, Mul, Divu, Remu, Sltu}
 use Rattle.riscu.specs.declared.Instruction.{Instruction}
-use Rattle.riscu.specs.declared.Instruction.the-variants.{Lui, Addi, Register, Ld, Sd, Beq, Jal, Jalr, Ecall}
+use Rattle.riscu.specs.declared.Instruction.the-variants.{Lui, Immediate, Register, Ld, Sd, Branch, Jal, Jalr, Ecall}
 use Rattle.riscu.specs.declared.Decoded.{Decoded}
 use Rattle.riscu.specs.declared.Decoded.the-variants.{Row, NoRow}
+pub use Rattle.listing.specs.First.{Case, _⇒_}
+unfoldable pub use Rattle.listing.specs.First.{first}
 use Rattle.listing.specs.Group.{Job, Group, View, viewOf, sortOf, sortingOf, operand}
 use Rattle.listing.specs.declared.Operand.{Operand}
 use Rattle.listing.specs.declared.Operand.the-variants.{InRegister, Constant}
@@ -26,17 +28,8 @@ use Rattle.listing.specs.declared.End.{End}
 use Rattle.listing.specs.declared.End.the-variants.{Exit, BadPc, BadWord, BadAddress, BadCall, StepLimit, NotFollowed, TraceFull}
 
 -- a point of the order: whether it applies, and the end that it gives
-pub record Point : Type 0 where
-  pub applies : Bool
-  pub end : End
-
-infix 5 _⇒_
-abbrev pub _⇒_ : Bool → End → Point
-a ⇒ e = record { applies = a; end = e }
-
-unfoldable pub first : List Point → Option End
-first [] = none
-first (p ∷ ps) = cond (p .applies) (some (p .end)) (first ps)
+abbrev pub Point : Type 0
+Point = Case End
 
 -- the address of the last memory word
 abbrev pub lastAddress : ℕ
@@ -76,11 +69,11 @@ module _ (v : View) where
   -- points 4 to 6, and 9: the instructions that take an address from a register, and ECALL
   unfoldable pub addressPoints : Instruction → List Point
   addressPoints (Lui rd imm) = []
-  addressPoints (Addi rd rs1 imm) = []
+  addressPoints (Immediate op rd rs1 imm) = []
   addressPoints (Register op rd rs1 rs2) = []
   addressPoints (Ld rd rs1 imm) = (openAt rs1 ⇒ NotFollowed BaseOpen) ∷ (badAccess rs1 imm ⇒ BadAddress) ∷ []
   addressPoints (Sd rs1 rs2 imm) = (openAt rs1 ⇒ NotFollowed BaseOpen) ∷ (badAccess rs1 imm ⇒ BadAddress) ∷ []
-  addressPoints (Beq rs1 rs2 imm) = []
+  addressPoints (Branch on rs1 rs2 imm) = []
   addressPoints (Jal rd imm) = []
   addressPoints (Jalr rd rs1 imm) = (openAt rs1 ⇒ NotFollowed BaseOpen) ∷ []
   addressPoints Ecall =
@@ -133,11 +126,11 @@ module _ (v : View) where
 -- the registers (not 0) and memory words that an instruction writes; read writes its word only where an input is left
 unfoldable pub writes : Bool → Instruction → ℕ
 writes left (Lui rd imm) = cond (eqb rd 0) 0 1
-writes left (Addi rd rs1 imm) = cond (eqb rd 0) 0 1
+writes left (Immediate op rd rs1 imm) = cond (eqb rd 0) 0 1
 writes left (Register op rd rs1 rs2) = cond (eqb rd 0) 0 1
 writes left (Ld rd rs1 imm) = cond (eqb rd 0) 0 1
 writes left (Sd rs1 rs2 imm) = 1
-writes left (Beq rs1 rs2 imm) = 0
+writes left (Branch on rs1 rs2 imm) = 0
 writes left (Jal rd imm) = cond (eqb rd 0) 0 1
 writes left (Jalr rd rs1 imm) = cond (eqb rd 0) 0 1
 writes left Ecall = cond left 2 1

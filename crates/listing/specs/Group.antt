@@ -5,12 +5,14 @@ use mathlib.Core.List.{List}
 use lib.Dec.{ltb, eqb}
 use lib.ListN.{getD}
 use Rattle.boxes.specs.Boxes.{Box, Choice, low, high, fixed, pieces, lows}
-use Rattle.riscu.specs.Word.{size, widen}
+use Rattle.words.specs.Word.{size, widen}
 use Rattle.riscu.specs.Machine.{State, start, run}
 use Rattle.riscu.specs.declared.Operation.{Operation}
 use Rattle.riscu.specs.declared.Operation.the-variants.{Add, Sub, Mul, Divu, Remu, Sltu}
+use Rattle.riscu.specs.declared.Condition.{Condition}
+use Rattle.riscu.specs.declared.Condition.the-variants.{Equal}
 use Rattle.riscu.specs.declared.Instruction.{Instruction}
-use Rattle.riscu.specs.declared.Instruction.the-variants.{Lui, Addi, Register, Ld, Sd, Beq, Jal, Jalr, Ecall}
+use Rattle.riscu.specs.declared.Instruction.the-variants.{Lui, Immediate, Register, Ld, Sd, Branch, Jal, Jalr, Ecall}
 use Rattle.listing.specs.declared.Operand.{Operand}
 use Rattle.listing.specs.declared.Operand.the-variants.{InRegister, Constant}
 use Rattle.listing.specs.declared.Sorting.{Sorting}
@@ -47,14 +49,18 @@ sortOf Sltu a b = cond (ltb a b) 1 0
 unfoldable pub comparison : ℕ → ℕ → ℕ
 comparison a b = cond (ltb a b) 0 (cond (eqb a b) 1 2)
 
--- What an instruction sorts the choices by: ADDI is ADD of a constant, and into register 0 nothing is computed.
+-- what a branch sorts by
+abbrev pub branchSorting : Condition → Operand → Operand → Sorting
+branchSorting Equal a b = Compares a b
+
+-- What an instruction sorts the choices by: an immediate is a constant operand, and into register 0 nothing is computed.
 unfoldable pub sortingOf : Instruction → Sorting
 sortingOf (Lui rd imm) = Nothing
-sortingOf (Addi rd rs1 imm) = cond (eqb rd 0) Nothing (Operates Add (InRegister rs1) (Constant (widen imm)))
+sortingOf (Immediate op rd rs1 imm) = cond (eqb rd 0) Nothing (Operates op (InRegister rs1) (Constant (widen imm)))
 sortingOf (Register op rd rs1 rs2) = cond (eqb rd 0) Nothing (Operates op (InRegister rs1) (InRegister rs2))
 sortingOf (Ld rd rs1 imm) = Nothing
 sortingOf (Sd rs1 rs2 imm) = Nothing
-sortingOf (Beq rs1 rs2 imm) = Compares (InRegister rs1) (InRegister rs2)
+sortingOf (Branch on rs1 rs2 imm) = branchSorting on (InRegister rs1) (InRegister rs2)
 sortingOf (Jal rd imm) = Nothing
 sortingOf (Jalr rd rs1 imm) = Nothing
 sortingOf Ecall = Nothing

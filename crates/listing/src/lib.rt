@@ -2,17 +2,18 @@
 // What a reader must believe stands in specs/; the crates `corners` and `paths` have its laws.
 // The code is what an instruction sorts by, and how a path ends: an enum of document 01's kinds, where kind 8 carries its reason, and
 // their numbers.
+use riscu::Condition;
 use riscu::Instruction;
 use riscu::Operation;
 use riscu::plain::Registers;
 use riscu::plain::register;
-use riscu::words::widen;
+use words::widen;
 ghost use mathlib.Core.Path.{_≡_};
 ghost use mathlib.Core.Bool.{cond};
 ghost use lib.Dec.{eqb};
-ghost use Rattle.riscu.specs.declared.Instruction.the-variants.{Addi};
+ghost use Rattle.riscu.specs.declared.Instruction.the-variants.{Immediate};
 ghost use Rattle.listing.specs.declared.Sorting.the-variants.{Operates, Nothing};
-ghost use Rattle.listing.specs.Group.{operand, sortingOf};
+ghost use Rattle.listing.specs.Group.{operand, branchSorting, sortingOf};
 ghost use Rattle.listing.specs.Numbers.{kindNumber, reasonNumber, reasonWord};
 
 // What an instruction works on: a register, or a number of its own.
@@ -75,16 +76,19 @@ fn operates(rd: usize, op: Operation, first: Operand, second: Operand) -> Sortin
     }
 }
 
-fn adds(rd: usize, rs1: usize, imm: i64) -> Sorting
-    ensures { λ r. ⌜ r ≡ sortingOf (Addi rd rs1 imm) ⌝ }
+fn immediate_sorting(op: Operation, rd: usize, rs1: usize, imm: i64) -> Sorting
+    ensures { λ r. ⌜ r ≡ sortingOf (Immediate op rd rs1 imm) ⌝ }
 {
     let n = widen(imm);
-    operates(
-        rd,
-        Operation::Add,
-        Operand::InRegister(rs1),
-        Operand::Constant(n),
-    )
+    operates(rd, op, Operand::InRegister(rs1), Operand::Constant(n))
+}
+
+fn branch_sorting(on: Condition, first: Operand, second: Operand) -> Sorting
+    ensures { λ r. ⌜ r ≡ branchSorting on first second ⌝ }
+{
+    match on {
+        Condition::Equal => Sorting::Compares { first, second },
+    }
 }
 
 // What an instruction sorts by.
@@ -93,16 +97,15 @@ pub fn sorting_of(i: Instruction) -> Sorting
 {
     match i {
         Instruction::Lui { rd, imm } => Sorting::Nothing,
-        Instruction::Addi { rd, rs1, imm } => adds(rd, rs1, imm),
+        Instruction::Immediate { op, rd, rs1, imm } => immediate_sorting(op, rd, rs1, imm),
         Instruction::Register { op, rd, rs1, rs2 } => {
             operates(rd, op, Operand::InRegister(rs1), Operand::InRegister(rs2))
         }
         Instruction::Ld { rd, rs1, imm } => Sorting::Nothing,
         Instruction::Sd { rs1, rs2, imm } => Sorting::Nothing,
-        Instruction::Beq { rs1, rs2, imm } => Sorting::Compares {
-            first: Operand::InRegister(rs1),
-            second: Operand::InRegister(rs2),
-        },
+        Instruction::Branch { on, rs1, rs2, imm } => {
+            branch_sorting(on, Operand::InRegister(rs1), Operand::InRegister(rs2))
+        }
         Instruction::Jal { rd, imm } => Sorting::Nothing,
         Instruction::Jalr { rd, rs1, imm } => Sorting::Nothing,
         Instruction::Ecall => Sorting::Nothing,

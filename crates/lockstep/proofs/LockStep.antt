@@ -6,23 +6,23 @@ use Prim.Native.Nat.{ℕ, zero, suc, _+_, _<_}
 use native.Mathlib.Numerals.{add-one}
 use native.Mathlib.Omega.{arith}
 use Rattle.boxes.specs.Boxes.{Choice, Box, lows, highs, Inside}
-use Rattle.boxes.specs.Cuts.{OneInput}
+use Rattle.boxes.specs.Working.Cuts.{OneInput}
 use Rattle.boxes.proofs.Choices.{lows-inside, highs-inside}
 use Rattle.riscu.specs.Machine.{State, fetch, run, step}
 use Rattle.riscu.specs.declared.Instruction.{Instruction}
 use Rattle.riscu.specs.declared.Decoded.the-variants.{Row}
 use Rattle.listing.specs.Group.{Job, after, classOf}
-use Rattle.lockstep.specs.Together.{Pair, Machines, both, advanced, advancedBy, together, starting, Hangs, AtCorners}
+use Rattle.lockstep.specs.Working.LockStep.{Pair, Machines, both, advanced, advancedBy, lockSteps, starting, Hangs, AtCorners}
 use Rattle.lockstep.specs.declared.Corners.{Corners}
-use Rattle.corners.specs.Smooth.{Settled, Smooth}
-use Rattle.corners.specs.Good.{Sound}
-use Rattle.corners.specs.Tags.{tagsAt}
+use Rattle.corners.specs.Working.Smooth.{Settled, Smooth}
+use Rattle.corners.specs.Working.Good.{Sound}
+use Rattle.corners.specs.Working.Tags.{tagsAt}
 use Rattle.corners.proofs.Uniform.{class-uniform, whole-after, after-suc, uniform-start, uniform-step}
 
 -- one step more
-pub one-more : (lo hi : Choice) (code : List ℕ) (p : Pair) (k : ℕ) (t u : Pair) → t ≡ together lo hi code k p
-    → u ≡ advancedBy lo hi (fetch code (t .low .pc)) t → u ≡ together lo hi code (k + 1) p
-unfolding together
+pub one-more : (lo hi : Choice) (code : List ℕ) (p : Pair) (k : ℕ) (t u : Pair) → t ≡ lockSteps lo hi code k p
+    → u ≡ advancedBy lo hi (fetch code (t .low .pc)) t → u ≡ lockSteps lo hi code (k + 1) p
+unfolding lockSteps
 one-more lo hi code p k t u e h = rw add-one (h ∙ ap (λ (q : Pair). advancedBy lo hi (fetch code (q .low .pc)) q) e)
 
 module _ (j : Job) (b : Box) (sound : Sound j b) where
@@ -64,8 +64,8 @@ module _ (j : Job) (b : Box) (sound : Sound j b) where
 
   -- what a replay leaves, where the steps before n are smooth on the box
   pub replayed : (n : ℕ) → ((m : ℕ) → m < n → Smooth j b m)
-      → AtCorners j b n (together (lows b) (highs b) (j .code) n (starting (j .memory)))
-  unfolding together
+      → AtCorners j b n (lockSteps (lows b) (highs b) (j .code) n (starting (j .memory)))
+  unfolding lockSteps
   replayed zero s = starts
   replayed (suc n) s = by-fetch (s n (omega arith)) (replayed n (λ m h. s m (omega arith)))
 

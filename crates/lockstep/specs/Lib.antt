@@ -1,1 +1,2 @@
-pub mod Together
+-- No definition here is to be believed.
+pub mod Working

@@ -16,12 +16,13 @@ use riscu::plain::store;
 ghost use mathlib.Core.Path.{_≡_};
 ghost use Prim.Native.Nat.{_+_, _/_};
 ghost use lib.ListN.{getD, set, replicate};
+ghost use Rattle.riscu.specs.Lent.{lent, returned};
 ghost use Rattle.riscu.specs.Limits.{memoryWords};
-ghost use Rattle.riscu.specs.Word.{word, widen};
+ghost use Rattle.words.specs.Word.{word, widen};
 ghost use Rattle.riscu.specs.Machine.{putIn};
 ghost use Rattle.riscu.specs.declared.Instruction.the-variants.{Ecall};
-ghost use Rattle.corners.specs.Tags.{tagIn, operandTag, tagBy};
-ghost use Rattle.lockstep.specs.Together.{tagged, openTag, Marks, Hangs};
+ghost use Rattle.corners.specs.Working.Tags.{tagIn, operandTag, tagBy};
+ghost use Rattle.lockstep.specs.Working.LockStep.{tagged, openTag, Marks, Hangs};
 
 // The input that an operand hangs on; a constant hangs on none.
 fn tag_in(o: Operand, tags: &Registers) -> u64
@@ -130,9 +131,9 @@ pub(crate) fn mark_read(
     at: At,
 )
     ensures { λ _.
-        let t = tagged (now (tags .entry)) (now (tagmem .entry)) in
-        let u = tagged (now (tags .exit)) (now (tagmem .exit)) in
-        ⌜ Marks (now (inputs .entry)) Ecall at (now (low .entry)) (now (low .entry)) t u ⌝ }
+        let t = tagged (lent tags) (lent tagmem) in
+        let u = tagged (returned tags) (returned tagmem) in
+        ⌜ Marks (lent inputs) Ecall at (lent low) (lent low) t u ⌝ }
 {
     put(tags, 10, 0);
     let k = at.reads;
@@ -153,17 +154,17 @@ pub(crate) fn mark(
     at: At,
 )
     ensures { λ _.
-        let t = tagged (now (tags .entry)) (now (tagmem .entry)) in
-        let u = tagged (now (tags .exit)) (now (tagmem .exit)) in
-        ⌜ Marks (now (inputs .entry)) i at (now (low .entry)) (now (high .entry)) t u ⌝ }
+        let t = tagged (lent tags) (lent tagmem) in
+        let u = tagged (returned tags) (returned tagmem) in
+        ⌜ Marks (lent inputs) i at (lent low) (lent high) t u ⌝ }
 {
     match i {
         Instruction::Lui { rd, imm } => put(tags, rd, 0),
-        Instruction::Addi { rd, rs1, imm } => mark_copied(tags, rd, rs1),
+        Instruction::Immediate { op, rd, rs1, imm } => mark_copied(tags, rd, rs1),
         Instruction::Register { op, rd, rs1, rs2 } => mark_result(low, high, tags, rd, rs1, rs2),
         Instruction::Ld { rd, rs1, imm } => mark_loaded(low, tags, tagmem, rd, rs1, imm),
         Instruction::Sd { rs1, rs2, imm } => mark_stored(low, tags, tagmem, rs1, rs2, imm),
-        Instruction::Beq { rs1, rs2, imm } => {}
+        Instruction::Branch { on, rs1, rs2, imm } => {}
         Instruction::Jal { rd, imm } => put(tags, rd, 0),
         Instruction::Jalr { rd, rs1, imm } => put(tags, rd, 0),
         Instruction::Ecall => mark_read(inputs, low, tags, tagmem, at),

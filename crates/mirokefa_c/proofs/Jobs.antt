@@ -5,13 +5,12 @@ use mathlib.Core.List.{List}
 use Prim.Native.Nat.{ℕ}
 use Rattle.calls.specs.Call.{replyTo}
 use Rattle.jobs.specs.Job.{JobRead, callFor}
-use Rattle.serving.specs.Served.{tableWords, servedAs, servedLeft, servedBy, served}
+use Rattle.serving.specs.Served.{tableWords, servedBy, served}
 use Rattle.writing.specs.Form.{jobForm}
 use Rattle.writing.specs.Written.{TypedValues, Passes}
 use Rattle.writing.proofs.Forms.{read-back}
 
 pub write-served : (j : JobRead) → TypedValues j → Passes j → (report : List ℕ) →
-    let y = replyTo (j .memory) tableWords (callFor j report) in
-    served (jobForm j) report ≡ servedLeft (servedAs (y .answer)) (y .report)
+    served (jobForm j) report ≡ replyTo (j .memory) tableWords (callFor j report)
 unfolding served servedBy
 write-served j typed passed report = let b = read-back j typed passed in rw (b .accepted, b .same)

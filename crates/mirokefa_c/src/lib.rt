@@ -3,26 +3,25 @@
 // Each slice comes as a pointer and its length in elements.
 // The archive of this crate, libmirokefa_c.a, is what include/mirokefa.h declares.
 use calls::Outcome;
+use calls::completion_number;
 use calls::reply;
 use counting::Counted;
 use counting::counting::count;
 use engine::explore;
-use reports::answer_number;
 use reports::placing::place;
-use serving::outcome;
 use serving::serve;
 use sheets::asking::sheet_bytes;
 use sheets::sheet::print_sheet;
-use sheets::sheet_answer_number;
 use writing::WriteOutcome;
 use writing::write_outcome;
 use writing::writing::write_job;
 ghost use mathlib.Core.Path.{_≡_};
-ghost use Rattle.calls.specs.Border.{replyOf, callLent, calledOn};
+ghost use Rattle.calls.specs.Border.{refusedNumber, replyOf, callLent, calledOn};
+ghost use Rattle.calls.specs.Done.{refusalFrom};
 ghost use Rattle.counting.specs.Count.{counted};
-ghost use Rattle.reports.specs.Placing.{answerNumber, placedOn};
-ghost use Rattle.serving.specs.Served.{outcomeOf, servedOn};
-ghost use Rattle.sheets.specs.Sheet.{sheetBytes, sheetAnswerNumber, printedOn};
+ghost use Rattle.reports.specs.Placing.{placedOn};
+ghost use Rattle.serving.specs.Served.{servedOn};
+ghost use Rattle.sheets.specs.Sheet.{sheetBytes, printedOn};
 ghost use Rattle.writing.specs.Write.{valuesLent, writeOutcome, jobWrittenOn};
 
 // Explores a job and writes a page of its paths, or refuses the call.
@@ -47,11 +46,11 @@ pub extern "C" fn mirokefa_explore(
 // The server's call: job blocks in, a report out.
 #[no_mangle]
 pub extern "C" fn mirokefa_serve(job: &[u8], report: &mut [u8]) -> Outcome
-    ensures answer { λ r. ⌜ r ≡ outcomeOf (servedOn job report .answer) ⌝ }
+    ensures answer { λ r. ⌜ r ≡ replyOf (servedOn job report .answer) ⌝ }
     ensures bytes { λ r. ⌜ now (report .exit) ≡ servedOn job report .report ⌝ }
 {
     let a = serve(job, report);
-    outcome(a)
+    reply(a)
 }
 
 // Which path of a report does each row take?
@@ -62,11 +61,11 @@ pub extern "C" fn mirokefa_place(
     rows: &[u64],
     answers: &mut [u64],
 ) -> u64
-    ensures answer { λ r. ⌜ r ≡ answerNumber (placedOn inputs report rows answers .answer) ⌝ }
-    ensures words { λ r. ⌜ now (answers .exit) ≡ placedOn inputs report rows answers .answers ⌝ }
+    ensures answer { λ r. ⌜ r ≡ refusedNumber (refusalFrom (placedOn inputs report rows answers .answer)) ⌝ }
+    ensures words { λ r. ⌜ now (answers .exit) ≡ placedOn inputs report rows answers .list ⌝ }
 {
     let a = place(inputs, report, rows, answers);
-    answer_number(a)
+    completion_number(a)
 }
 
 // The length of a report's sheet, or MAX if it is no word.
@@ -80,11 +79,11 @@ pub extern "C" fn mirokefa_sheet_bytes(inputs: u64, report_bytes: usize) -> usiz
 // A report printed on a sheet.
 #[no_mangle]
 pub extern "C" fn mirokefa_sheet(inputs: u64, report: &[u8], sheet: &mut [u8]) -> u64
-    ensures answer { λ r. ⌜ r ≡ sheetAnswerNumber (printedOn inputs report sheet .answer) ⌝ }
-    ensures bytes { λ r. ⌜ now (sheet .exit) ≡ printedOn inputs report sheet .sheet ⌝ }
+    ensures answer { λ r. ⌜ r ≡ refusedNumber (refusalFrom (printedOn inputs report sheet .answer)) ⌝ }
+    ensures bytes { λ r. ⌜ now (sheet .exit) ≡ printedOn inputs report sheet .list ⌝ }
 {
     let a = print_sheet(inputs, report, sheet);
-    sheet_answer_number(a)
+    completion_number(a)
 }
 
 // How many choices of a job lead to each exit value, and to each other end?
@@ -106,7 +105,7 @@ pub extern "C" fn mirokefa_write(
     job: &mut [u8],
 ) -> WriteOutcome
     ensures answer { λ r. ⌜ r ≡ writeOutcome (jobWrittenOn (valuesLent code memory intervals limit first) job .answer) ⌝ }
-    ensures bytes { λ r. ⌜ now (job .exit) ≡ jobWrittenOn (valuesLent code memory intervals limit first) job .space ⌝ }
+    ensures bytes { λ r. ⌜ now (job .exit) ≡ jobWrittenOn (valuesLent code memory intervals limit first) job .list ⌝ }
 {
     let a = write_job(code, memory, intervals, limit, first, job);
     write_outcome(a)

@@ -9,7 +9,7 @@ use lib.ListN.{length, getD, take, drop, length-append, length-take, length-drop
 use lib.Seq.{take-at, drop-at, drop-drop}
 use borrow.Author.Tests.{lt-ltb, le-ltb}
 use Rattle.boxes.specs.Boxes.{Interval, _⋯_, from}
-use Rattle.boxes.specs.Cuts.{boxIn}
+use Rattle.boxes.specs.Working.Cuts.{boxIn}
 use Rattle.boxes.proofs.Lists.{length-from}
 use Rattle.boxes.proofs.TwoLists.{length-in}
 use Rattle.riscu.specs.declared.At.{At}
@@ -17,7 +17,7 @@ use Rattle.listing.specs.Listing.{Path}
 use Rattle.listing.specs.declared.End.{End}
 use Rattle.blocks.specs.Record.{mostInputs, recordBytes, recordOf}
 use Rattle.blocks.proofs.Reading.{record-length}
-use Rattle.pages.specs.Page.{leasts, greatests, endedPath, pageWith, filled}
+use Rattle.pages.specs.Working.Page.{leasts, greatests, endedPath, pageWith, filled}
 use Rattle.pages.specs.declared.Window.{Window}
 
 -- two lists made of the same numbers, as a box

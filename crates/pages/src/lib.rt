@@ -1,19 +1,21 @@
 // The page of a call: an ended path's record in its place of the report, where the page begins at or before that path.
 // Each register's interval is the lesser and the greater of its values at the two corners, and the other words are numbers that are given.
 // The contract of `write_path` is one equation for the whole report: the record's bytes are the definition's, and every other byte is as lent.
-use blocks::PATH_BYTES;
 use blocks::record::Ended;
 use blocks::record::put_path;
+use blocks::report::record_bytes;
+use decide::classes::greatest;
 use decide::classes::least;
 use listing::End;
 use riscu::At;
 use riscu::plain::Registers;
 use riscu::plain::register;
 ghost use mathlib.Core.Path.{_≡_};
-ghost use Prim.Native.Nat.{_+_, _-_, _*_, _≤_, _<_, max};
+ghost use Prim.Native.Nat.{_+_, _-_, _*_, _≤_, _<_};
 ghost use lib.ListN.{length};
+ghost use Rattle.riscu.specs.Lent.{lent, returned};
 ghost use Rattle.blocks.specs.Record.{mostInputs, recordBytes};
-ghost use Rattle.pages.specs.Page.{leasts, greatests, endedPath, pageWith, filled};
+ghost use Rattle.pages.specs.Working.Page.{leasts, greatests, endedPath, pageWith, filled};
 
 // The numbers of the paths that a page has places for: from the first wanted to below the end.
 pub struct Window {
@@ -27,15 +29,9 @@ pub struct Extremes {
     pub greater: Registers,
 }
 
-fn greatest(a: u64, b: u64) -> u64
-    ensures { λ r. ⌜ r ≡ max a b ⌝ }
-{
-    if a < b { b } else { a }
-}
-
 fn bounds(low: &Registers, high: &Registers) -> Extremes
-    ensures { λ r. ⌜ r .lesser ≡ leasts (now (low .entry)) (now (high .entry)) ⌝ }
-    ensures { λ r. ⌜ r .greater ≡ greatests (now (low .entry)) (now (high .entry)) ⌝ }
+    ensures { λ r. ⌜ r .lesser ≡ leasts (lent low) (lent high) ⌝ }
+    ensures { λ r. ⌜ r .greater ≡ greatests (lent low) (lent high) ⌝ }
 {
     let mut lesser = [0u64; 32];
     let mut greater = [0u64; 32];
@@ -66,8 +62,8 @@ pub fn write_path(
     requires { ⌜ (length (now lows) ≤ mostInputs) × (length (now lows) ≡ length (now highs)) ⌝ }
     requires { ⌜ filled (length (now lows)) window number + recordBytes (length (now lows)) ≤ length (now report) ⌝ }
     ensures { λ _.
-        let p = endedPath (now (lows .entry)) (now (highs .entry)) (now (low .entry)) (now (high .entry)) at steps end in
-        ⌜ now (report .exit) ≡ pageWith window number p (now (report .entry)) ⌝ }
+        let p = endedPath (lent lows) (lent highs) (lent low) (lent high) at steps end in
+        ⌜ returned report ≡ pageWith window number p (lent report) ⌝ }
 {
     if number < window.first {
         return;
@@ -76,7 +72,7 @@ pub fn write_path(
     let lesser = e.lesser;
     let greater = e.greater;
     let place = (number - window.first) as usize;
-    let offset = PATH_BYTES * place;
+    let offset = record_bytes(lows.len()) * place;
     let p = Ended {
         number,
         end,

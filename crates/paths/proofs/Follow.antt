@@ -14,7 +14,7 @@ use Rattle.listing.specs.Ending.{needs, endOf}
 use Rattle.listing.specs.Listing.{Path, whole, later, pathOf, splitBy, enough, listing}
 use Rattle.listing.specs.Follow.{pieceOf, followOn, follow}
 use Rattle.corners.proofs.Moves.{Continues, split-mem, partition, moves-each}
-use Rattle.corners.specs.Good.{Sound, Good}
+use Rattle.corners.specs.Working.Good.{Sound, Good}
 
 -- the choices of a group are led to it, all the same way
 pub record Leads (j : Job) (g : Group) : Type 0 where

@@ -22,7 +22,7 @@ use Rattle.corners.proofs.Moves.{Continues, followed, partition, moves-hold}
 use Rattle.corners.proofs.Enough.{none-waits}
 use Rattle.paths.proofs.Paths.{pathBoxes, groupBoxes, later-boxes}
 use Rattle.paths.proofs.Follow.{Leads, piece-here, piece-leads, whole-leads}
-use Rattle.corners.specs.Good.{Sound, Good, inputOf}
+use Rattle.corners.specs.Working.Good.{Sound, Good, inputOf}
 
 before-within : {j : Job} {b d : Box} (b′ d′ : Box) → Within b′ b → Within d′ d → Before j b d → Before j b′ d′
 before-within b′ d′ w v f =

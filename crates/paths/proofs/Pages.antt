@@ -19,7 +19,7 @@ use Rattle.listing.specs.declared.End.{End}
 use Rattle.corners.proofs.Moves.{Continues, continues, partition, waiting-good}
 use Rattle.corners.proofs.Enough.{none-waits}
 use Rattle.corners.proofs.CornerListing.{moves-rest}
-use Rattle.corners.specs.Good.{Sound, Good}
+use Rattle.corners.specs.Working.Good.{Sound, Good}
 
 -- t goes on from s: it has the paths of s first, and no fewer paths and groups
 pub record Further (s t : Progress) : Type 0 where

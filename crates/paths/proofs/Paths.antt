@@ -12,7 +12,7 @@ use Rattle.listing.specs.declared.End.{End}
 use Rattle.listing.specs.Listing.{Path, later, pathOf, splitBy, moves, enough, listing}
 use Rattle.corners.proofs.Moves.{partition, moves-hold, moves-each}
 use Rattle.corners.proofs.Enough.{none-waits}
-use Rattle.corners.specs.Good.{Sound, Good}
+use Rattle.corners.specs.Working.Good.{Sound, Good}
 
 -- The boxes of the paths and of the groups that wait divide the starting box.
 

@@ -19,7 +19,7 @@ use Rattle.riscu.specs.Decode.{decodeOf}
 use Rattle.riscu.specs.declared.Operation.{Operation}
 use Rattle.riscu.specs.declared.Operation.the-variants.{Add, Sub, Mul, Divu, Remu, Sltu}
 use Rattle.riscu.specs.declared.Instruction.{Instruction}
-use Rattle.riscu.specs.declared.Instruction.the-variants.{Lui, Addi, Register, Ld, Sd, Beq, Jal, Jalr, Ecall}
+use Rattle.riscu.specs.declared.Instruction.the-variants.{Lui, Immediate, Register, Ld, Sd, Branch, Jal, Jalr, Ecall}
 use Rattle.riscu.specs.declared.Decoded.{Decoded}
 use Rattle.riscu.specs.declared.Decoded.the-variants.{Row, NoRow}
 use Rattle.listing.specs.Group.{Job, Group, after, sortOf, sortingOf, operand, View, viewOf}
@@ -35,8 +35,8 @@ use Rattle.listing.specs.declared.End.{End}
 use Rattle.listing.specs.declared.End.the-variants.{StepLimit, TraceFull, BadPc, BadWord}
 use Rattle.corners.proofs.Followed.{or-false, closed, lowest-at}
 use Rattle.corners.proofs.Corner.{good-uniform}
-use Rattle.corners.specs.Smooth.{DataAddress, Completes, Smooth}
-use Rattle.corners.specs.Good.{Good}
+use Rattle.corners.specs.Working.Smooth.{DataAddress, Completes, Smooth}
+use Rattle.corners.specs.Working.Good.{Good}
 
 -- an end with a kind up to 6 comes from the second list if it comes from the first
 record Stops (ps qs : List Point) : Type 0 where
@@ -118,11 +118,11 @@ module _ (j : Job) (g : Group) (c : Choice) (m : Inside c (g .box)) where
   points-stop : (i : Instruction) (t : Bool) → Stops (points v i ++ ((t ⇒ TraceFull) ∷ [])) (points (viewOfOne state) i)
   unfolding points addressPoints sortingOf
   points-stop (Lui rd imm) t = operands-stop Nothing t
-  points-stop (Addi rd rs1 imm) t = operands-stop (sortingOf (Addi rd rs1 imm)) t
+  points-stop (Immediate op rd rs1 imm) t = operands-stop (sortingOf (Immediate op rd rs1 imm)) t
   points-stop (Register op rd rs1 rs2) t = operands-stop (sortingOf (Register op rd rs1 rs2)) t
   points-stop (Ld rd rs1 imm) t = engine (omega arith) refl (λ o. machine (access rs1 imm o) (operands-stop Nothing t))
   points-stop (Sd rs1 rs2 imm) t = engine (omega arith) refl (λ o. machine (access rs1 imm o) (operands-stop Nothing t))
-  points-stop (Beq rs1 rs2 imm) t = operands-stop (sortingOf (Beq rs1 rs2 imm)) t
+  points-stop (Branch on rs1 rs2 imm) t = operands-stop (sortingOf (Branch on rs1 rs2 imm)) t
   points-stop (Jal rd imm) t = operands-stop Nothing t
   points-stop (Jalr rd rs1 imm) t = engine (omega arith) refl (λ _. operands-stop Nothing t)
   points-stop Ecall t =
@@ -177,11 +177,11 @@ module _ (s : State) where
   completes-goes-on : (i : Instruction) → Completes i s → first (points (viewOfOne s) i) ≡ none
   unfolding points addressPoints sortingOf first
   completes-goes-on (Lui rd imm) h = operands-go-on _
-  completes-goes-on (Addi rd rs1 imm) h = operands-go-on _
+  completes-goes-on (Immediate op rd rs1 imm) h = operands-go-on _
   completes-goes-on (Register op rd rs1 rs2) h = operands-go-on _
   completes-goes-on (Ld rd rs1 imm) h = rw (good-address (offset rs1 imm s) h) (operands-go-on Nothing)
   completes-goes-on (Sd rs1 rs2 imm) h = rw (good-address (offset rs1 imm s) h) (operands-go-on Nothing)
-  completes-goes-on (Beq rs1 rs2 imm) h = operands-go-on _
+  completes-goes-on (Branch on rs1 rs2 imm) h = operands-go-on _
   completes-goes-on (Jal rd imm) h = operands-go-on _
   completes-goes-on (Jalr rd rs1 imm) h = operands-go-on _
   completes-goes-on Ecall h = rw (h .0, h .1, h .2, good-address (reg 11 s) (h .3)) (operands-go-on Nothing)
@@ -234,11 +234,11 @@ module _ (s : State) where
   points-of-machine : (i : Instruction) → OfMachine (points (viewOfOne s) i)
   unfolding points addressPoints
   points-of-machine (Lui rd imm) = operands-of-machine _
-  points-of-machine (Addi rd rs1 imm) = operands-of-machine _
+  points-of-machine (Immediate op rd rs1 imm) = operands-of-machine _
   points-of-machine (Register op rd rs1 rs2) = operands-of-machine _
   points-of-machine (Ld rd rs1 imm) = passed refl (lower (omega arith) (operands-of-machine _))
   points-of-machine (Sd rs1 rs2 imm) = passed refl (lower (omega arith) (operands-of-machine _))
-  points-of-machine (Beq rs1 rs2 imm) = operands-of-machine _
+  points-of-machine (Branch on rs1 rs2 imm) = operands-of-machine _
   points-of-machine (Jal rd imm) = operands-of-machine _
   points-of-machine (Jalr rd rs1 imm) = passed refl (operands-of-machine _)
   points-of-machine Ecall =

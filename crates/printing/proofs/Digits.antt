@@ -10,7 +10,7 @@ use lib.Dec.{ltb}
 use lib.ListN.{length, length-append}
 use Rattle.boxes.proofs.Lists.{by-test}
 use Rattle.printing.specs.Printed.{digit, digitsIn, wordDigits, digits}
-use Rattle.printing.specs.Output.{Output, push, write}
+use Rattle.printing.specs.Working.Writing.{Output, push, write}
 use Rattle.printing.proofs.Outputs.{write-one, then}
 
 -- more digits than there are make no difference

@@ -1,21 +1,22 @@
 -- How long the output can be, whatever the words are.
 -- Assumes nothing.
 use mathlib.Core.Bool.{Bool}
-use mathlib.Core.List.{List, flatMap}
-use Prim.Native.Nat.{ℕ, zero, suc, _+_, _*_, _≤_, min}
+use mathlib.Core.Path.{refl, sym}
+use mathlib.Core.List.{List, [], _∷_, flatMap, Memᴰ·of-map, List·Memᴰ·head as here, List·Memᴰ·tail as there}
+use Prim.Native.Nat.{ℕ, _+_, _*_, _≤_}
 use native.Mathlib.Omega.{arith}
 use lib.Dec.{eqb}
-use lib.ListN.{length, length-append}
-use Rattle.boxes.specs.Boxes.{from}
-use Rattle.boxes.proofs.Lists.{by-test}
-use Rattle.blocks.specs.Block.{wordAt}
-use Rattle.blocks.specs.Layout as place
+use lib.ListN.{length, length-append, length-map}
+use Rattle.boxes.specs.Boxes.{Box, from, _∈_}
+use Rattle.boxes.proofs.Lists.{by-test, length-from}
 use Rattle.blocks.specs.Record.{mostInputs}
 use Rattle.blocks.specs.Report.{recordAt}
+use Rattle.blocks.specs.Said.{Said, inputIn, saidAt, firstSaid}
 use Rattle.calls.specs.Border.{yesNumber}
-use Rattle.printing.specs.Printed.{wordDigits, ascii, field, range, turnedAway, firstLine, lineWith, inputAt, inputs, ending, line}
-use Rattle.printing.specs.Printed.{lineAt, lines, listingText, longestRefusal, longestLine, longest}
+use Rattle.printing.specs.Printed.{wordDigits, ascii, field, range, turnedAway, firstLine, inputText, ending, line, shown, listingText}
+use Rattle.printing.specs.Working.Lengths.{longestRefusal, longestLine, longest}
 use Rattle.printing.proofs.Digits.{digits-length}
+use Rattle.printing.proofs.Parts.{said-length}
 
 field-length : (name : List ℕ) (n : ℕ) → length (field name n) ≤ length name + wordDigits
 unfolding field
@@ -34,58 +35,51 @@ unfolding firstLine
 first-length count more =
     simp length-append (omega (arith, field-length (ascii "paths ") count, field-length (ascii " more ") (yesNumber more)))
 
-inputs-length : (bytes : List ℕ) (i n : ℕ) → length (flatMap (inputAt bytes) (from i n)) ≤ 46 * n
-unfolding flatMap from inputAt
-inputs-length bytes i zero = omega arith
-inputs-length bytes i (suc n) =
-    let here = range-length (ascii " in ") (wordAt bytes (place.lows + i)) (wordAt bytes (place.highs + i)) in
-    let rest = inputs-length bytes (suc i) n in
+inputs-length : (b : Box) → length (flatMap inputText b) ≤ 46 * length b
+unfolding flatMap inputText
+inputs-length [] = omega arith
+inputs-length (v ∷ b) =
+    let here = range-length (ascii " in ") (v .low) (v .high) in
+    let rest = inputs-length b in
     rw length-append (omega arith)
 
-ending-length : (bytes : List ℕ) → length (ending bytes) ≤ 48
+ending-length : (s : Said) → length (ending s) ≤ 48
 unfolding ending
-ending-length bytes =
-    by-test (eqb (wordAt bytes place.kind) 1)
-    (λ e. rw e (range-length (ascii " exit ") (wordAt bytes place.exitLow) (wordAt bytes place.exitHigh)))
-    (λ e. by-test (eqb (wordAt bytes place.kind) 8)
-    (λ f. rw (e, f) (omega (arith, field-length (ascii " reason ") (wordAt bytes place.reason))))
+ending-length s =
+    by-test (eqb (s .kind) 1)
+    (λ e. rw e (range-length (ascii " exit ") (s .exit .low) (s .exit .high)))
+    (λ e. by-test (eqb (s .kind) 8)
+    (λ f. rw (e, f) (omega (arith, field-length (ascii " reason ") (s .reason))))
     (λ f. rw (e, f) (omega arith)))
 
--- of numbers and two texts
-with-length : (n kind pc steps : ℕ) (is e : List ℕ) → length (lineWith n kind pc steps is e) ≤ 102 + length is + length e
-unfolding lineWith
-with-length n kind pc steps is e =
+line-length : (s : Said) → length (s .box) ≤ mostInputs → length (line s) ≤ longestLine
+unfolding line
+line-length s few =
     simp length-append (
     omega (
       arith,
-      field-length (ascii "path ") n,
-      field-length (ascii " end ") kind,
-      field-length (ascii " at ") pc,
-      field-length (ascii " steps ") steps,
+      field-length (ascii "path ") (s .number),
+      field-length (ascii " end ") (s .kind),
+      field-length (ascii " at ") (s .pc),
+      field-length (ascii " steps ") (s .steps),
+      inputs-length (s .box),
+      ending-length s,
     )
     )
 
-line-length : (bytes : List ℕ) → length (line bytes) ≤ longestLine
-unfolding line inputs
-line-length bytes =
-    omega (
-      arith,
-      with-length (wordAt bytes place.number) (wordAt bytes place.kind) (wordAt bytes place.pc) (wordAt bytes place.steps) (inputs bytes) (ending bytes),
-      inputs-length bytes 0 (min (wordAt bytes place.inputs) mostInputs),
-      ending-length bytes,
-    )
-
-lines-length : (n : ℕ) (report : List ℕ) (k m : ℕ) → length (flatMap (lineAt n report) (from k m)) ≤ longestLine * m
-unfolding flatMap from lineAt
-lines-length n report k zero = omega arith
-lines-length n report k (suc m) =
-    let here = line-length (recordAt n report k) in
-    let rest = lines-length n report (suc k) m in
+lines-length : (ss : List Said) → ((s : Said) → s ∈ ss → length (s .box) ≤ mostInputs) → length (flatMap line ss) ≤ longestLine * length ss
+unfolding flatMap
+lines-length [] h = omega arith
+lines-length (s ∷ ss) h =
+    let now = line-length s (h s (here refl)) in
+    let rest = lines-length ss (λ t m. h t (there m)) in
     rw length-append (omega arith)
 
-pub listing-length : (n count : ℕ) (more : Bool) (report : List ℕ) → length (listingText n count more report) ≤ longest count
-unfolding listingText lines
-listing-length n count more report =
-    let first = first-length count more in
-    let rest = lines-length n report 0 count in
-    rw length-append (omega arith)
+pub listing-length : (n count : ℕ) (more : Bool) (report : List ℕ) → n ≤ mostInputs → length (listingText n count more report) ≤ longest count
+unfolding shown
+listing-length n count more report few =
+    let ss = firstSaid n count report in
+    let inputs : (s : Said) → s ∈ ss → length (s .box) ≤ mostInputs = λ s m.
+    let (k, _, e) = Memᴰ·of-map (saidAt n report) (from 0 count) m in
+    rw (sym e) (omega (arith, length-map (from 0 n) (inputIn n (recordAt n report k)), length-from n 0)) in
+    rw length-append (omega (arith, said-length n count report, first-length (length ss) more, lines-length ss inputs))

@@ -1,7 +1,7 @@
 -- Texts written one behind the other, and what a whole text leaves of a slice.
 -- Assumes nothing.
 use mathlib.Core.Path.{_≡_, refl, ap, _∙_}
-use mathlib.Core.List.{List, [], _∷_, _++_, flatMap}
+use mathlib.Core.List.{List, [], _∷_, _++_, map, flatMap}
 use Prim.Native.Nat.{ℕ, suc, _+_, _-_, _<_, _≤_, min}
 use native.Mathlib.Nat.{add-zero}
 use native.Mathlib.Omega.{arith}
@@ -12,7 +12,8 @@ use lib.ListN.{length, getD, set, take, drop, length-set, take-append-drop, drop
 use lib.Seq.{take-all, take-nil, drop-cons, take-suc-set, drop-set-lt, append-snoc}
 use Rattle.boxes.specs.Boxes.{from}
 use Rattle.boxes.proofs.Lists.{by-test}
-use Rattle.printing.specs.Output.{Output, output, push, write, fitted, fitting}
+use Rattle.printing.specs.Output.{fitted, fitting}
+use Rattle.printing.specs.Working.Writing.{Output, output, push, write}
 
 pub push-fits : (l : List ℕ) (at b : ℕ) → at < length l → output (set l at b) (at + 1) ≡ push (output l at) b
 unfolding push
@@ -44,6 +45,12 @@ module _ (s : Output) (text : List ℕ) (i : ℕ) where
   pub text-done : length text ≤ i → s ≡ write s (drop i text)
   unfolding write
   text-done h = rw (drop-of-length-le text h)
+
+-- the texts of a list's elements, by what the elements are made of
+pub flat-map : {A B C : Type 0} (f : B → List C) (g : A → B) (l : List A) → flatMap f (map g l) ≡ flatMap (λ (x : A). f (g x)) l
+unfolding flatMap
+flat-map f g [] = refl
+flat-map f g (x ∷ l) = rw (flat-map f g l)
 
 -- a text part by part
 module _ (f : ℕ → List ℕ) (s : Output) (n i : ℕ) where

@@ -1,41 +1,12 @@
--- Bytes written onto a lent slice from its start on, as far as they fit.
-use mathlib.Core.Path.{_≡_}
-use Prim.Native.Nat.{ℕ, _+_, min}
-use mathlib.Core.Bool.{cond}
-use mathlib.Core.List.{List, [], _∷_, _++_}
-use lib.Dec.{ltb}
-use denote.Ref.{now}
-use lib.ListN.{length, set, take, drop}
-use Rattle.riscu.specs.Lent.{LentList}
+-- A text on a lent slice, from its start on, as far as it fits.
+use Prim.Native.Nat.{ℕ, min}
+use mathlib.Core.List.{List, _++_}
+use lib.ListN.{length, take, drop}
 
--- the slice, and where the next byte goes
-pub record Output : Type 0 where
-  pub bytes : List ℕ
-  pub used : ℕ
-
-abbrev pub output : List ℕ → ℕ → Output
-output bytes used = record { bytes = bytes; used = used }
-
--- one byte more, if it fits
-unfoldable pub push : Output → ℕ → Output
-push s b = cond (ltb (s .used) (length (s .bytes))) (output (set (s .bytes) (s .used) b) (s .used + 1)) s
-
-unfoldable pub write : Output → List ℕ → Output
-write s [] = s
-write s (b ∷ bs) = write (push s b) bs
-
--- a text is written on a lent slice from a place on, and r is where the next byte goes
-abbrev pub Writes : LentList → ℕ → ℕ → List ℕ → Type 0
-Writes out at r text = output (now (out .exit)) r ≡ write (output (now (out .entry)) at) text
-
--- what a whole text leaves of a slice, and how many of its bytes stand there
+-- what a text leaves of a slice, and how many of its bytes stand there
 
 abbrev pub fitted : List ℕ → List ℕ → List ℕ
 fitted text out = take (length out) text ++ drop (length text) out
 
 abbrev pub fitting : List ℕ → List ℕ → ℕ
 fitting text out = min (length text) (length out)
-
--- a whole text is written on a lent slice, and r is how many of its bytes stand there
-abbrev pub Prints : LentList → ℕ → List ℕ → Type 0
-Prints out r text = (now (out .exit) ≡ fitted text (now (out .entry))) × (r ≡ fitting text (now (out .entry)))

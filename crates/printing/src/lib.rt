@@ -1,4 +1,4 @@
-// The program's output: `turned away N`, or the listing of a report; what a reader must believe stands in specs/.
+// The program's output: `turned away N`, or the listing of a report; what a reader must believe stands in specs/ outside Working/.
 // `writer` writes texts and numbers onto a lent slice, as far as they fit; `lines` writes a record's line from its words.
 // The laws say that the text of a report that tells some paths is what document 01 shows of them, and how long it can be.
 use crate::lines::put_lines;
@@ -7,9 +7,9 @@ use crate::writer::put_text;
 use calls::yes_number;
 ghost use Prim.Native.Nat.{_*_, _≤_};
 ghost use lib.ListN.{length};
-ghost use Rattle.blocks.specs.Record.{recordBytes};
+ghost use Rattle.blocks.specs.Record.{mostInputs, recordBytes};
 ghost use Rattle.printing.specs.Printed.{turnedAway, listingText};
-ghost use Rattle.printing.specs.Output.{Prints};
+ghost use Rattle.printing.specs.Working.Writing.{Prints};
 
 mod lines;
 pub mod writer;
@@ -31,7 +31,7 @@ pub fn print_listing(
     more: bool,
     out: &mut [u8],
 ) -> usize
-    requires { ⌜ count * recordBytes inputs ≤ length (now report) ⌝ }
+    requires { ⌜ (count * recordBytes inputs ≤ length (now report)) × (inputs ≤ mostInputs) ⌝ }
     ensures { λ r. ⌜ Prints out r (listingText inputs count more (now (report .entry))) ⌝ }
 {
     let mut p = put_field(out, 0, b"paths ", count as u64);

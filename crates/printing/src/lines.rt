@@ -2,10 +2,8 @@
 use crate::writer::put_field;
 use crate::writer::put_range;
 use crate::writer::put_text;
-use blocks::MOST_INPUTS;
 use blocks::layout::EXIT_HIGH;
 use blocks::layout::EXIT_LOW;
-use blocks::layout::INPUTS;
 use blocks::layout::KIND;
 use blocks::layout::NUMBER;
 use blocks::layout::PC;
@@ -14,34 +12,23 @@ use blocks::layout::STEPS;
 use blocks::report::input_high;
 use blocks::report::input_low;
 use blocks::report::record_word;
-ghost use mathlib.Core.Path.{_≡_};
-ghost use Prim.Native.Nat.{_*_, _≤_, _<_, min};
+ghost use mathlib.Core.List.{flatMap};
+ghost use Prim.Native.Nat.{_*_, _≤_, _<_};
 ghost use lib.ListN.{length};
 ghost use Rattle.blocks.specs.Record.{mostInputs, recordBytes};
-ghost use Rattle.blocks.specs.Report.{recordsIn, recordAt};
-ghost use Rattle.printing.specs.Printed as printed;
-ghost use Rattle.printing.specs.Printed.{ending, line, lines};
-ghost use Rattle.printing.specs.Output.{Writes};
+ghost use Rattle.blocks.specs.Report.{recordsIn};
+ghost use Rattle.blocks.specs.Said.{saidAt, firstSaid};
+ghost use Rattle.printing.specs.Printed.{inputText, ending, line};
+ghost use Rattle.printing.specs.Working.Writing.{Writes};
 
-// How many inputs a record shows: no more than it has places for.
-fn shown_inputs(count: u64) -> usize
-    ensures { λ r. ⌜ r ≡ min count mostInputs ⌝ }
-{
-    if count < MOST_INPUTS as u64 {
-        return count as usize;
-    }
-    MOST_INPUTS
-}
-
-// The inputs of a record, each with its interval.
+// The intervals of a record's inputs.
 fn put_inputs(report: &[u8], inputs: usize, k: usize, out: &mut [u8], at: usize) -> usize
-    requires { ⌜ k < recordsIn inputs (now report) ⌝ }
-    ensures { λ r. ⌜ Writes out at r (printed.inputs (recordAt inputs (now (report .entry)) k)) ⌝ }
+    requires { ⌜ (k < recordsIn inputs (now report)) × (inputs ≤ mostInputs) ⌝ }
+    ensures { λ r. ⌜ Writes out at r (flatMap inputText (saidAt inputs (now (report .entry)) k .box)) ⌝ }
 {
-    let count = shown_inputs(record_word(report, inputs, k, INPUTS));
     let mut p = at;
     let mut i: usize = 0;
-    while i < count {
+    while i < inputs {
         let low = input_low(report, inputs, k, i);
         let high = input_high(report, inputs, k, i);
         p = put_range(out, p, b" in ", low, high);
@@ -53,7 +40,7 @@ fn put_inputs(report: &[u8], inputs: usize, k: usize, out: &mut [u8], at: usize)
 // The exit value of kind 1, the reason of kind 8, and nothing for the others.
 fn put_ending(report: &[u8], inputs: usize, k: usize, out: &mut [u8], at: usize) -> usize
     requires { ⌜ k < recordsIn inputs (now report) ⌝ }
-    ensures { λ r. ⌜ Writes out at r (ending (recordAt inputs (now (report .entry)) k)) ⌝ }
+    ensures { λ r. ⌜ Writes out at r (ending (saidAt inputs (now (report .entry)) k)) ⌝ }
 {
     let kind = record_word(report, inputs, k, KIND);
     if kind == 1 {
@@ -70,8 +57,8 @@ fn put_ending(report: &[u8], inputs: usize, k: usize, out: &mut [u8], at: usize)
 
 // The line of a record.
 fn put_line(report: &[u8], inputs: usize, k: usize, out: &mut [u8], at: usize) -> usize
-    requires { ⌜ k < recordsIn inputs (now report) ⌝ }
-    ensures { λ r. ⌜ Writes out at r (line (recordAt inputs (now (report .entry)) k)) ⌝ }
+    requires { ⌜ (k < recordsIn inputs (now report)) × (inputs ≤ mostInputs) ⌝ }
+    ensures { λ r. ⌜ Writes out at r (line (saidAt inputs (now (report .entry)) k)) ⌝ }
 {
     let mut p = put_field(out, at, b"path ", record_word(report, inputs, k, NUMBER));
     p = put_field(out, p, b" end ", record_word(report, inputs, k, KIND));
@@ -90,8 +77,8 @@ pub(crate) fn put_lines(
     out: &mut [u8],
     at: usize,
 ) -> usize
-    requires { ⌜ count * recordBytes inputs ≤ length (now report) ⌝ }
-    ensures { λ r. ⌜ Writes out at r (lines inputs count (now (report .entry))) ⌝ }
+    requires { ⌜ (count * recordBytes inputs ≤ length (now report)) × (inputs ≤ mostInputs) ⌝ }
+    ensures { λ r. ⌜ Writes out at r (flatMap line (firstSaid inputs count (now (report .entry)))) ⌝ }
 {
     let mut p = at;
     let mut k: usize = 0;

@@ -3,7 +3,7 @@ ghost use mathlib.Core.Path.{_≡_};
 ghost use Prim.Native.Nat.{_+_, _≤_};
 ghost use lib.ListN.{length};
 ghost use Rattle.printing.specs.Printed.{digits, field, range};
-ghost use Rattle.printing.specs.Output.{output, push, Writes};
+ghost use Rattle.printing.specs.Working.Writing.{output, push, Writes};
 
 // One byte.
 fn put_byte(out: &mut [u8], at: usize, b: u8) -> usize

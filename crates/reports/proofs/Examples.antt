@@ -8,10 +8,13 @@ use Rattle.boxes.specs.Boxes.{Interval, _⋯_, from, every}
 use Rattle.listing.specs.Listing.{Path}
 use Rattle.listing.specs.declared.End.the-variants.{Exit}
 use Rattle.blocks.specs.Block.{bytesOf, numberOf, checkFrom, block, each, checksAgree}
+use Rattle.blocks.specs.Layout.{lowAt, highAt}
 use Rattle.blocks.specs.Record.{padded, firstWords, secondWords, recordOf, records}
-use Rattle.calls.specs.Call.{firstNo}
+use Rattle.listing.specs.First.{first}
+use Rattle.calls.specs.Border.{refusedNumber}
+use Rattle.calls.specs.Done.{doneBy, refusalFrom}
 use Rattle.reports.specs.Readable.{readable}
-use Rattle.reports.specs.Placing.{holds, placing, noPath, placeCallOf, placeAsks, placedBy, placed, answerNumber}
+use Rattle.reports.specs.Placing.{isInside, placing, noPath, placeCallOf, placeQuestions, placed}
 
 -- a record with this path number, input count, lows and highs
 abbrev recordWith : ℕ → ℕ → List ℕ → List ℕ → List ℕ
@@ -21,7 +24,7 @@ recordWith number count lows highs = block (number ∷ 1 ∷ 0 ∷ 0 ∷ count �
 unfoldable answer : ℕ → List ℕ → List ℕ → ℕ → List ℕ
 answer n report rows answers =
     let l = placed (placeCallOf n report rows (replicate answers 5)) in
-    answerNumber (l .answer) ∷ l .answers
+    refusedNumber (refusalFrom (l .answer)) ∷ l .list
 
 -- 0..9 under number 7, and 5..20 under number 3
 abbrev overlapping : List ℕ
@@ -63,7 +66,7 @@ rows-placed : accepted
     ∷ (0 ∷ replicate 1024 noPath)
     ∷ (0 ∷ [])
     ∷ []
-unfolding accepted answer records recordOf firstWords secondWords placed placedBy placeAsks firstNo readable placing holds every each checksAgree checkFrom numberOf bytesOf block from flatMap
+unfolding accepted answer records recordOf firstWords secondWords doneBy placeQuestions first readable placing isInside every each checksAgree checkFrom numberOf bytesOf block lowAt highAt from flatMap
 rows-placed = refl
 
 unfoldable refused : List (List ℕ)
@@ -90,5 +93,5 @@ rows-refused : refused
     ∷ (13 ∷ 5 ∷ []) ∷ (13 ∷ []) ∷ (13 ∷ 5 ∷ []) ∷ (13 ∷ 5 ∷ [])
     ∷ (12 ∷ 5 ∷ [])
     ∷ []
-unfolding refused answer placed placedBy placeAsks firstNo readable placing holds every each checksAgree checkFrom numberOf bytesOf block from flatMap
+unfolding refused answer doneBy placeQuestions first readable placing isInside every each checksAgree checkFrom numberOf bytesOf block lowAt highAt from flatMap
 rows-refused = refl

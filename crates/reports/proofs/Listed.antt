@@ -10,9 +10,10 @@ use native.Mathlib.Omega.{arith}
 use native.Mathlib.Decide.{decLt}
 use Rattle.boxes.specs.Boxes.{from}
 use Rattle.boxes.proofs.Lists.{by-test}
-use Rattle.blocks.specs.Report.{recordsIn, recordAt}
-use Rattle.reports.specs.Readable.{recordsOf}
-use Rattle.reports.specs.Placing.{holds, noPath, placing}
+use Rattle.blocks.specs.Report.{recordsIn}
+use Rattle.blocks.specs.Said.{saidAt}
+use Rattle.reports.specs.Readable.{allSaid}
+use Rattle.reports.specs.Placing.{isInside, noPath, placing}
 use Rattle.reports.specs.Placed.{HeldByNone, FirstHolds, numberAt, RowPlaced}
 use Rattle.reports.proofs.Records.{placing-stop, placing-go, placing-end}
 
@@ -21,28 +22,28 @@ module _ (n : ℕ) (report row : List ℕ) where
   count = recordsIn n report
 
   abbrev held : ℕ → Bool
-  held k = holds n row (recordAt n report k)
+  held k = isInside row (saidAt n report k .box)
 
   -- the placing in the records from k on
   abbrev rest : ℕ → ℕ
-  rest k = placing n (map (recordAt n report) (from k (count - k))) row
+  rest k = placing (map (saidAt n report) (from k (count - k))) row
 
   -- the records before k do not hold the row
-  past : (k : ℕ) → k ≤ count → ((i : ℕ) → i < k → held i ≡ false) → placing n (recordsOf n report) row ≡ rest k
+  past : (k : ℕ) → k ≤ count → ((i : ℕ) → i < k → held i ≡ false) → placing (allSaid n report) row ≡ rest k
   past zero l h = rw sub-zero
   past (suc k) l h =
       let e : k + 1 ≡ suc k = omega arith in
       past k (omega arith) (λ i m. h i (omega arith))
-      ∙ placing-go n (recordAt n report) row k count (omega arith) (h k (omega arith))
+      ∙ placing-go (saidAt n report) row k count (omega arith) (h k (omega arith))
       ∙ ap rest e
 
-  pub placing-first : (i : ℕ) → FirstHolds n report row i → placing n (recordsOf n report) row ≡ numberAt n report i
+  pub placing-first : (i : ℕ) → FirstHolds n report row i → placing (allSaid n report) row ≡ numberAt n report i
   placing-first i f =
       let l = f .inside in
-      past i (omega arith) (f .not-before) ∙ placing-stop n (recordAt n report) row i count l (f .held)
+      past i (omega arith) (f .not-before) ∙ placing-stop (saidAt n report) row i count l (f .held)
 
-  pub placing-none : HeldByNone n report row → placing n (recordsOf n report) row ≡ noPath
-  placing-none h = past count (omega arith) h ∙ placing-end n (recordAt n report) row count count (omega arith)
+  pub placing-none : HeldByNone n report row → placing (allSaid n report) row ≡ noPath
+  placing-none h = past count (omega arith) h ∙ placing-end (saidAt n report) row count count (omega arith)
 
   -- one of the first k records, or none of them
   search-first : (k : ℕ) → k ≤ count → ((i : ℕ) × FirstHolds n report row i) ⊎ ((i : ℕ) → i < k → held i ≡ false)
@@ -62,7 +63,7 @@ module _ (n : ℕ) (report row : List ℕ) where
   pub first-or-none : ((i : ℕ) × FirstHolds n report row i) ⊎ HeldByNone n report row
   first-or-none = search-first count (omega arith)
 
-  pub row-placed : RowPlaced n report row (placing n (recordsOf n report) row)
+  pub row-placed : RowPlaced n report row (placing (allSaid n report) row)
   row-placed =
       record {
         first-wins = placing-first;

@@ -1,32 +1,32 @@
 -- The rows of a job in its own complete report: each row of the starting box has the number of the one path that holds it.
 -- Assumes nothing.
-use mathlib.Core.Path.{_≡_, sym, _∙_}
-use mathlib.Core.Bool.{true, false, and-eq-true-iff}
-use mathlib.Core.Logic.{⊎-elim}
+use mathlib.Core.Path.{_≡_, sym, ap, _∙_, subst}
+use mathlib.Core.Bool.{true, false}
+use mathlib.Core.Logic.{_↔_, ⊎-elim}
 use mathlib.Core.List.{List, [], _∷_, append-nil, flatMap, List·Memᴰ·not-nil, List·Memᴰ·cases-cons}
 use Prim.Native.Nat.{ℕ, _*_, _^_, _≤_, _<_}
 use native.Mathlib.Nat.{zero-add}
 use native.Mathlib.Omega.{arith}
-use lib.ListN.{length, drop, length-take, length-drop}
-use lib.Seq.{length-take-le}
-use borrow.Author.Tests.{leb-true, le-leb}
+use lib.ListN.{length, length-take}
 use Rattle.boxes.specs.Boxes.{Choice, Inside, keep, _∈_}
-use Rattle.boxes.proofs.Choices.{inside-length, inside-at, at-inside}
 use Rattle.boxes.proofs.Lists.{by-test}
 use Rattle.boxes.proofs.Places.{place-mem, place-exists, place-below}
 use Rattle.listing.specs.Group.{Job}
 use Rattle.listing.specs.Listing.{Path, listing}
-use Rattle.corners.specs.Good.{Sound}
+use Rattle.corners.specs.Working.Good.{Sound}
 use Rattle.blocks.specs.Reading.{Tells}
 use Rattle.blocks.specs.Record.{mostInputs, recordBytes, records}
 use Rattle.blocks.specs.Report.{recordsIn, recordAt}
-use Rattle.blocks.proofs.Each.{each-all, each-at}
+use Rattle.blocks.specs.Said.{Said, saidAt, saidOf}
 use Rattle.blocks.proofs.Reading.{records-length}
-use Rattle.blocks.proofs.Records.{part-inside}
+use Rattle.blocks.proofs.Said.{said-told}
 use Rattle.calls.specs.Call.{Call, inputsOf, written, more, jobOf}
 use Rattle.calls.specs.Complete.{IsPath, Complete}
 use Rattle.calls.specs.Engine.{Engine, Lent, Leaves, Meets, Exchange, History, over, made}
+use Rattle.calls.specs.Done.{DoneLeft}
 use Rattle.calls.specs.Together.{SameJob, last, isAccepted, bytesWritten}
+use Rattle.calls.specs.declared.Completion.the-variants.{Done}
+use Rattle.calls.proofs.Done.{left-done}
 use Rattle.demands.proofs.Accepted.{path-inputs, paths-fit}
 use Rattle.demands.proofs.Complete.{listing-complete}
 use Rattle.demands.proofs.Demands.{demand-2, demand-3, history-fair, leaves-meets}
@@ -34,15 +34,13 @@ use Rattle.demands.proofs.Faithful.{listing-faithful}
 use Rattle.demands.proofs.Histories.{Fair}
 use Rattle.demands.proofs.Joined.{same-itself, fair-sound, fair-few, fair-counted, fair-limit, pages-some}
 use Rattle.demands.proofs.Words.{path-fits}
-use Rattle.reports.specs.Readable.{recordsOf, readable}
-use Rattle.reports.specs.Placing.{rowsIn, rowAt, between, holds, noPath, placing, PlaceCall, placeCallOf, placeAsks, placed}
+use Rattle.reports.specs.Readable.{allSaid, readable}
+use Rattle.reports.specs.Placing.{rowsIn, rowAt, isInside, noPath, placing, PlaceCall, placeCallOf, placeQuestions, placeDeed, placed}
 use Rattle.reports.specs.Placed.{FirstHolds, OwnReport, OnPath, OwnPlaced}
-use Rattle.reports.specs.declared.PlaceRefusal.{PlaceRefusal}
-use Rattle.reports.specs.declared.PlaceRefusal.the-variants.{Records, Rows}
-use Rattle.reports.specs.declared.Placed.the-variants.{Answered}
 use Rattle.reports.proofs.Written.{Writable, report-length, report-records, tells-at, written-readable}
+use Rattle.reports.proofs.Records.{inside-test}
 use Rattle.reports.proofs.Listed.{placing-first, placing-none}
-use Rattle.reports.proofs.Promises.{places, row-answer}
+use Rattle.reports.proofs.Promises.{both-yes, row-answer}
 
 -- a sound job with at most 8 inputs whose whole listing is a report
 record Reportable (j : Job) : Type 0 where
@@ -79,46 +77,32 @@ module _ (j : Job) (able : Reportable j) where
     inputs-are : length (p .box) ≡ n
     inputs-are = writable .inputs p in-listing
 
-    -- its record holds the choices of its box
-    holds-inside : (row : Choice) → length row ≡ n → holds n row (recordAt n report i) ≡ true → Inside row (p .box)
-    unfolding holds
-    holds-inside row l h =
-        at-inside (p .box) row (omega (arith, inputs-are))
-        (λ k m.
-        let z : k < mostInputs = omega (arith, able .few, inputs-are) in
-        let b = each-at (between (recordAt n report i) row) n 0 h k (omega arith) (omega (arith, inputs-are)) in
-        let (low, high) = and-eq-true-iff _ _ .0 (rw (tells .low k z, tells .high k z) at b) in
-        (leb-true _ _ low, leb-true _ _ high))
+    -- its record has its box
+    said : saidAt n report i ≡ saidOf i p
+    said = rw inputs-are at (said-told tells (omega (arith, able .few, inputs-are)))
 
-    inside-holds : (row : Choice) → Inside row (p .box) → holds n row (recordAt n report i) ≡ true
-    unfolding holds
-    inside-holds row h =
-        each-all (between (recordAt n report i) row) n 0
-        (λ k l m.
-        let z : k < mostInputs = omega (arith, able .few) in
-        let (low, high) = inside-at (p .box) row h k in
-        rw (tells .low k z, tells .high k z, le-leb _ _ low, le-leb _ _ high))
+    holds : (row : Choice) → (isInside row (saidAt n report i .box) ≡ true) ↔ Inside row (p .box)
+    holds row = subst (λ (s : Said). (isInside row (s .box) ≡ true) ↔ Inside row (p .box)) (sym said) (inside-test row (p .box))
 
   complete : Complete j
   complete = listing-complete j (able .sound)
 
   module _ (row : Choice) where
     abbrev x : ℕ
-    x = placing n (recordsOf n report) row
+    x = placing (allSaid n report) row
 
     -- the path that holds a choice of the starting box has the first record that does
     listed-path : Inside row (j .box) → OnPath j row x
     listed-path h =
         let (m, p, e, i) = complete .some-path row h in
-        let l = inside-length (j .box) row h in
         let first : FirstHolds n report row m =
         record {
           inside = omega (arith, report-records writable, place-below (listing j) m e);
-          held = inside-holds m p e row i;
+          held = holds m p e row .1 i;
           not-before = λ k b.
               let (q, f) = path-at k (omega (arith, report-records writable, place-below (listing j) m e)) in
-              by-test (holds n row (recordAt n report k))
-              (λ y. absurd (omega (arith, complete .one-path row k m q p f e (holds-inside k q f row l y) i)))
+              by-test (isInside row (saidAt n report k .box))
+              (λ y. absurd (omega (arith, complete .one-path row k m q p f e (holds k q f row .0 y) i)))
               (λ held-not. held-not);
         } in
         let z : x ≡ m = placing-first n report row m first ∙ tells m p e .number in
@@ -131,13 +115,13 @@ module _ (j : Job) (able : Reportable j) where
           faithful = listing-faithful j (able .sound) p (in-listing m p e);
         }
 
-    listed-outside : length row ≡ n → (Inside row (j .box) → ⊥) → x ≡ noPath
-    listed-outside l h =
+    listed-outside : (Inside row (j .box) → ⊥) → x ≡ noPath
+    listed-outside h =
         placing-none n report row
         (λ k b.
         let (p, e) = path-at k b in
-        by-test (holds n row (recordAt n report k))
-        (λ y. absurd (h (listing-faithful j (able .sound) p (in-listing k p e) .inputs row (holds-inside k p e row l y))))
+        by-test (isInside row (saidAt n report k .box))
+        (λ y. absurd (h (listing-faithful j (able .sound) p (in-listing k p e) .inputs row (holds k p e row .0 y))))
         (λ held-not. held-not))
 
 -- of what an engine that meets the contract of a call wrote
@@ -177,8 +161,8 @@ module _ (E : Engine) (meets : Meets E) {memory table : List ℕ} {xs : List Exc
   own-placed rows answers fit =
       record {
         answered = a;
-        from-box = λ k l h. rw (row-answer call a k l, same (row k)) (listed-path j able (row k) h);
-        outside = λ k l h. row-answer call a k l ∙ same (row k) ∙ listed-outside j able (row k) (row-length k l ∙ sym counted) h;
+        from-box = λ k l h. rw (row-answer call _ a k l, same (row k)) (listed-path j able (row k) h);
+        outside = λ k l h. row-answer call _ a k l ∙ same (row k) ∙ listed-outside j able (row k) h;
       }
     where
       n : ℕ
@@ -190,18 +174,11 @@ module _ (E : Engine) (meets : Meets E) {memory table : List ℕ} {xs : List Exc
       row : ℕ → List ℕ
       row k = rowAt n rows k
 
-      yes : (q : PlaceRefusal) → placeAsks call q ≡ true
-      yes Records = unfold placeAsks in own-readable
-      yes Rows = unfold placeAsks in fit
+      a : placed call .answer ≡ Done (rowsIn n rows)
+      a = ap (λ (l : DoneLeft). l .answer) (left-done (placeQuestions call) (placeDeed call) (both-yes call own-readable fit))
 
-      a : placed call .answer ≡ Answered
-      a = places call .accepted .1 yes
-
-      same : (r : List ℕ) → placing n (recordsOf n report) r ≡ placing (length (j .box)) (recordsOf (length (j .box)) (records 0 (listing j))) r
+      same : (r : List ℕ) → placing (allSaid n report) r ≡ placing (allSaid (length (j .box)) (records 0 (listing j))) r
       same r = rw (report-is, counted)
-
-      row-length : (k : ℕ) → k < rowsIn n rows → length (row k) ≡ n
-      row-length k l = length-take-le n (drop (n * k) rows) (rw length-drop (omega (arith, part-inside n rows k l)))
 
 -- one page that a call wrote from path 0 on, with no further path
 pub one-page : {memory table : List ℕ} (x : Exchange) → Lent memory table (x .call) → Leaves memory table (x .call) (x .left) → isAccepted x ≡ true

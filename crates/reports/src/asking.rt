@@ -1,17 +1,19 @@
 // The questions 12 and 13; the first no decides.
-use crate::PlaceRefusal;
-use crate::Placed;
-use blocks::MOST_INPUTS;
 use blocks::block::checks_agree;
 use blocks::layout::INPUTS;
 use blocks::report::record_bytes;
 use blocks::report::record_word;
 use blocks::report::records_in;
+use calls::Questioned;
+use calls::Refusal;
+use calls::questions::inputs_fit;
 ghost use mathlib.Core.Path.{_≡_};
 ghost use Prim.Native.Nat.{_≤_};
 ghost use Rattle.boxes.specs.Boxes.{every};
+ghost use Rattle.listing.specs.First.{first};
+ghost use Rattle.calls.specs.Working.Asking.{refusalIn};
 ghost use Rattle.reports.specs.Readable.{recordsOf, hasCount, readable};
-ghost use Rattle.reports.specs.Placing.{rowsFit, placedOn};
+ghost use Rattle.reports.specs.Placing.{rowsFit, placeQuestions, placeCallLent};
 
 // Rows that one call places.
 const MOST_ROWS: usize = 1024;
@@ -35,7 +37,7 @@ fn counts_agree(report: &[u8], inputs: usize) -> bool
 pub fn is_readable(inputs: u64, report: &[u8]) -> bool
     ensures { λ r. ⌜ r ≡ readable inputs (now (report .entry)) ⌝ }
 {
-    if !((1 <= inputs) & (inputs <= MOST_INPUTS as u64)) {
+    if !((1 <= inputs) & inputs_fit(inputs)) {
         return false;
     }
     let n = inputs as usize;
@@ -52,14 +54,14 @@ fn rows_fit(inputs: usize, rows: &[u64], answers: &[u64]) -> bool
 }
 
 // The first no of questions 12 and 13, or that both have the answer yes.
-pub(crate) fn ask_place(inputs: u64, report: &[u8], rows: &[u64], answers: &[u64]) -> Placed
-    ensures { λ r. ⌜ r ≡ placedOn inputs report rows answers .answer ⌝ }
+pub(crate) fn ask_place(inputs: u64, report: &[u8], rows: &[u64], answers: &[u64]) -> Questioned
+    ensures { λ r. ⌜ refusalIn r ≡ first (placeQuestions (placeCallLent inputs report rows answers)) ⌝ }
 {
     if !is_readable(inputs, report) {
-        return Placed::Refused(PlaceRefusal::Records);
+        return Questioned::No(Refusal::Records);
     }
     if !rows_fit(inputs as usize, rows, answers) {
-        return Placed::Refused(PlaceRefusal::Rows);
+        return Questioned::No(Refusal::Rows);
     }
-    Placed::Answered
+    Questioned::AllYes
 }

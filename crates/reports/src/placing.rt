@@ -1,26 +1,30 @@
 // Which path of a report does each row take?
-use crate::Placed;
 use crate::asking::ask_place;
 use blocks::layout::NUMBER;
 use blocks::report::input_high;
 use blocks::report::input_low;
 use blocks::report::record_word;
 use blocks::report::records_in;
+use calls::Completion;
+use calls::Questioned;
+use words::MAX;
 ghost use mathlib.Core.Path.{_≡_};
 ghost use Prim.Native.Nat.{_<_, _≤_};
 ghost use lib.ListN.{length};
 ghost use Rattle.blocks.specs.Record.{mostInputs};
-ghost use Rattle.blocks.specs.Report.{recordsIn, recordAt};
-ghost use Rattle.reports.specs.Readable.{recordsOf};
-ghost use Rattle.reports.specs.Placing.{rowsIn, rowAt, holds, placing, placings, placedLeft, placedOn};
+ghost use Rattle.blocks.specs.Report.{recordsIn};
+ghost use Rattle.blocks.specs.Said.{saidAt};
+ghost use Rattle.calls.specs.Done.{doneLeft};
+ghost use Rattle.reports.specs.Readable.{allSaid};
+ghost use Rattle.reports.specs.Placing.{rowsIn, rowAt, isInside, placing, placings, placedOn};
 
 // MAX, for a row in no path.
-const NO_PATH: u64 = 18446744073709551615;
+const NO_PATH: u64 = MAX;
 
 // Whether the box of record k holds row j.
 fn record_holds(report: &[u8], inputs: usize, k: usize, rows: &[u64], j: usize) -> bool
     requires { ⌜ (k < recordsIn inputs (now report)) × (inputs ≤ mostInputs) × (j < rowsIn inputs (now rows)) ⌝ }
-    ensures { λ r. ⌜ r ≡ holds inputs (rowAt inputs (now (rows .entry)) j) (recordAt inputs (now (report .entry)) k) ⌝ }
+    ensures { λ r. ⌜ r ≡ isInside (rowAt inputs (now (rows .entry)) j) (saidAt inputs (now (report .entry)) k .box) ⌝ }
 {
     let mut i: usize = 0;
     while i < inputs {
@@ -38,7 +42,7 @@ fn record_holds(report: &[u8], inputs: usize, k: usize, rows: &[u64], j: usize) 
 // The placing of row j.
 fn place_row(report: &[u8], inputs: usize, rows: &[u64], j: usize) -> u64
     requires { ⌜ (inputs ≤ mostInputs) × (j < rowsIn inputs (now rows)) ⌝ }
-    ensures { λ r. ⌜ r ≡ placing inputs (recordsOf inputs (now (report .entry))) (rowAt inputs (now (rows .entry)) j) ⌝ }
+    ensures { λ r. ⌜ r ≡ placing (allSaid inputs (now (report .entry))) (rowAt inputs (now (rows .entry)) j) ⌝ }
 {
     let n = records_in(report, inputs);
     let mut k: usize = 0;
@@ -63,14 +67,14 @@ fn place_rows(report: &[u8], inputs: usize, rows: &[u64], answers: &mut [u64])
     }
 }
 
-// Places rows in the paths of a report, or turns the call away.
-pub fn place(inputs: u64, report: &[u8], rows: &[u64], answers: &mut [u64]) -> Placed
-    ensures { λ r. ⌜ placedLeft r (now (answers .exit)) ≡ placedOn inputs report rows answers ⌝ }
+// Places rows in the paths of a report and answers how many, or refuses the call.
+pub fn place(inputs: u64, report: &[u8], rows: &[u64], answers: &mut [u64]) -> Completion
+    ensures { λ r. ⌜ doneLeft r (now (answers .exit)) ≡ placedOn inputs report rows answers ⌝ }
 {
-    let a = ask_place(inputs, report, rows, answers);
-    let Placed::Answered = a else {
-        return a;
+    let d = ask_place(inputs, report, rows, answers);
+    let Questioned::No(r) = d else {
+        place_rows(report, inputs as usize, rows, answers);
+        return Completion::Done(answers.len() as u64);
     };
-    place_rows(report, inputs as usize, rows, answers);
-    a
+    Completion::Refused(r)
 }

@@ -1,15 +1,16 @@
 -- pc stays a word, and the inputs read are at most the steps.
 -- Assumes nothing.
+use mathlib.Core.Bool.{Bool, true, false, cond}
 use mathlib.Core.List.{List}
 use Prim.Native.Nat.{ℕ, zero, suc, _+_, _≤_, _<_}
 use native.Mathlib.Omega.{arith}
-use native.Mathlib.Decide.{ℕ-discrete, decLt}
+use native.Mathlib.Decide.{decLt}
 use lib.ListN.{length}
-use borrow.Author.Tests.{lt-ltb, le-ltb, eq-eqb, ne-eqb}
-use Rattle.riscu.specs.Word.{size}
-use Rattle.riscu.specs.Machine.{State, reg, readNext, step, fetch, stepDecoded, run}
+use borrow.Author.Tests.{lt-ltb, le-ltb}
+use Rattle.words.specs.Word.{size, word, widen}
+use Rattle.riscu.specs.Machine.{State, reg, taken, following, jump, readNext, step, fetch, stepDecoded, run}
 use Rattle.riscu.specs.declared.Instruction.{Instruction}
-use Rattle.riscu.specs.declared.Instruction.the-variants.{Lui, Addi, Register, Ld, Sd, Beq, Jal, Jalr, Ecall}
+use Rattle.riscu.specs.declared.Instruction.the-variants.{Lui, Immediate, Register, Ld, Sd, Branch, Jal, Jalr, Ecall}
 use Rattle.riscu.specs.declared.Decoded.{Decoded}
 use Rattle.riscu.specs.declared.Decoded.the-variants.{Row, NoRow}
 
@@ -29,15 +30,15 @@ read-counted inputs s =
 step-counted : (inputs : List ℕ) (i : Instruction) (s : State) → Counted (s .reads) (step inputs i s)
 unfolding step
 step-counted inputs (Lui rd imm) s = record { pc-word = omega arith; reads-one = omega arith }
-step-counted inputs (Addi rd rs1 imm) s = record { pc-word = omega arith; reads-one = omega arith }
+step-counted inputs (Immediate op rd rs1 imm) s = record { pc-word = omega arith; reads-one = omega arith }
 step-counted inputs (Register op rd rs1 rs2) s = record { pc-word = omega arith; reads-one = omega arith }
 step-counted inputs (Ld rd rs1 imm) s = record { pc-word = omega arith; reads-one = omega arith }
 step-counted inputs (Sd rs1 rs2 imm) s = record { pc-word = omega arith; reads-one = omega arith }
-step-counted inputs (Beq rs1 rs2 imm) s =
-    elim (ℕ-discrete (reg rs1 s) (reg rs2 s)) [
-      | yes e ↦ rw (eq-eqb (reg rs1 s) (reg rs2 s) e) (record { pc-word = omega arith; reads-one = omega arith })
-      | no e ↦ rw (ne-eqb (reg rs1 s) (reg rs2 s) e) (record { pc-word = omega arith; reads-one = omega arith })
-    ]
+step-counted inputs (Branch on rs1 rs2 imm) s = go (taken on (reg rs1 s) (reg rs2 s))
+  where
+    go : (t : Bool) → Counted (s .reads) (jump s (cond t (word (s .pc + widen imm)) (following s)) (s .registers))
+    go true = record { pc-word = omega arith; reads-one = omega arith }
+    go false = record { pc-word = omega arith; reads-one = omega arith }
 step-counted inputs (Jal rd imm) s = record { pc-word = omega arith; reads-one = omega arith }
 step-counted inputs (Jalr rd rs1 imm) s = record { pc-word = omega arith; reads-one = omega arith }
 step-counted inputs Ecall s = read-counted inputs s

@@ -4,7 +4,7 @@ use mathlib.Core.Path.{_≡_}
 use mathlib.Core.List.{List}
 use Prim.Native.Nat.{ℕ}
 use borrow.Author.Tests.{eq-eqb}
-use Rattle.riscu.specs.Word.{maxWord}
+use Rattle.words.specs.Word.{maxWord}
 use Rattle.riscu.specs.Machine.{State, reg, put, next, operate, step}
 use Rattle.riscu.specs.declared.Operation.the-variants.{Divu, Remu}
 use Rattle.riscu.specs.declared.Instruction.the-variants.{Register}

@@ -3,10 +3,8 @@
 // A contract is an equation with a definition of specs/, where the papers leave nothing free.
 pub mod decoder;
 pub mod plain;
-mod power_table;
-pub mod words;
 
-// The six operations on two registers.
+// The six operations, on two registers or on a register and an immediate: ADDI is Add with an immediate.
 pub enum Operation {
     Add,
     Sub,
@@ -16,13 +14,19 @@ pub enum Operation {
     Sltu,
 }
 
-// An instruction, with its registers and its immediate.
+// What a branch asks of its two registers.
+pub enum Condition {
+    Equal,
+}
+
+// An instruction by its format, with its operation, its registers and its immediate.
 pub enum Instruction {
     Lui {
         rd: usize,
         imm: i64,
     },
-    Addi {
+    Immediate {
+        op: Operation,
         rd: usize,
         rs1: usize,
         imm: i64,
@@ -43,7 +47,8 @@ pub enum Instruction {
         rs2: usize,
         imm: i64,
     },
-    Beq {
+    Branch {
+        on: Condition,
         rs1: usize,
         rs2: usize,
         imm: i64,

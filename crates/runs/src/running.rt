@@ -5,8 +5,9 @@ use riscu::plain::Machine;
 use riscu::plain::Memory;
 use riscu::plain::Registers;
 ghost use mathlib.Core.Path.{_≡_};
+ghost use Rattle.riscu.specs.Lent.{lent, returned};
 ghost use Rattle.riscu.specs.Machine.{fetch, stepDecoded, run, start};
-ghost use Rattle.riscu.specs.Parts.{state};
+ghost use Rattle.riscu.specs.Working.Parts.{state};
 
 // The step that the code has at pc; where it has none, nothing moves.
 fn step_at(
@@ -17,9 +18,7 @@ fn step_at(
     at: At,
 ) -> At
     ensures { λ r.
-        let s = state at (now (registers .entry)) (now (memory .entry)) in
-        let t = state r (now (registers .exit)) (now (memory .exit)) in
-        ⌜ t ≡ stepDecoded (now (inputs .entry)) (fetch (now (code .entry)) (at .pc)) s ⌝ }
+        ⌜ state r (returned registers) (returned memory) ≡ stepDecoded (lent inputs) (fetch (lent code) (at .pc)) (state at (lent registers) (lent memory)) ⌝ }
 {
     let pc = at.pc;
     let n = code.len() as u64;
@@ -43,9 +42,7 @@ pub fn proceed(
     from: At,
 ) -> At
     ensures { λ r.
-        let s = state from (now (registers .entry)) (now (memory .entry)) in
-        let t = state r (now (registers .exit)) (now (memory .exit)) in
-        ⌜ t ≡ run (now (code .entry)) (now (inputs .entry)) n s ⌝ }
+        ⌜ state r (returned registers) (returned memory) ≡ run (lent code) (lent inputs) n (state from (lent registers) (lent memory)) ⌝ }
 {
     let mut at = from;
     let mut k: usize = 0;
@@ -58,7 +55,7 @@ pub fn proceed(
 
 // The starting machine, with memory as lent.
 pub fn begin(memory: &Memory, registers: &mut Registers, words: &mut Memory) -> At
-    ensures { λ r. ⌜ state r (now (registers .exit)) (now (words .exit)) ≡ start (now (memory .entry)) ⌝ }
+    ensures { λ r. ⌜ state r (returned registers) (returned words) ≡ start (lent memory) ⌝ }
 {
     let first = Machine::start();
     let held = first.registers;
@@ -80,8 +77,7 @@ pub fn run(
     scratch: &mut Memory,
 ) -> At
     ensures { λ r.
-        let t = state r (now (registers .exit)) (now (scratch .exit)) in
-        ⌜ t ≡ run (now (code .entry)) (now (inputs .entry)) n (start (now (memory .entry))) ⌝ }
+        ⌜ state r (returned registers) (returned scratch) ≡ run (lent code) (lent inputs) n (start (lent memory)) ⌝ }
 {
     let at = begin(memory, registers, scratch);
     proceed(code, inputs, n, registers, scratch, at)

@@ -10,39 +10,42 @@ use lib.Dec.{ltb}
 use lib.ListN.{length, drop}
 use Rattle.blocks.specs.Record.{recordBytes}
 use Rattle.blocks.specs.Report.{recordsIn}
-use Rattle.calls.specs.Call.{Call, inputsOf, Typed, Below, Reply, isPage, refusalOf, jobOf, page, replyBy, replyTo, called}
-use Rattle.calls.specs.declared.Answer.the-variants.{Page}
+use Rattle.calls.specs.Call.{Call, inputsOf, Typed, Below, Reply, isPage, refusalOf, jobOf, page, replyBy, replyTo}
+use Rattle.calls.specs.Questions.{number}
+use Rattle.calls.specs.declared.Answer.{Answer}
+use Rattle.calls.specs.declared.Answer.the-variants.{Refused, Page}
 use Rattle.demands.proofs.Refuses.{page-passes}
-use Rattle.demands.proofs.Reported.{page-few, page-fits}
-use Rattle.jobs.specs.Job.{inputCount, jobRead, callIn, jobNumber}
+use Rattle.demands.proofs.Reported.{page-few, page-fits, page-inputs}
+use Rattle.jobs.specs.Job.{inputCount, jobRead, callIn}
+use Rattle.jobs.proofs.Accepted.{intervals-length}
+use Rattle.jobs.proofs.Asked.{yes-sized}
 use Rattle.listing.specs.Group.{Job}
 use Rattle.listing.specs.Listing.{Path, listing}
-use Rattle.printing.specs.Printed.{listingText, longest}
+use Rattle.printing.specs.Printed.{listingText}
+use Rattle.printing.specs.Working.Lengths.{longest}
 use Rattle.printing.specs.Output.{fitted, fitting}
 use Rattle.printing.specs.Shown.{listingOf}
 use Rattle.printing.proofs.Lengths.{listing-length, refusal-length}
 use Rattle.printing.proofs.Outputs.{all-fits}
 use Rattle.printing.proofs.Told.{listing-told}
 use Rattle.serving.specs.Response.{reportPaths, responseBy, responseTo}
-use Rattle.serving.specs.Served.{tableWords, reply, servedLeft, served}
+use Rattle.serving.specs.Served.{tableWords, reply, served}
 use Rattle.serving.specs.Server.{Bytes}
-use Rattle.serving.specs.declared.Served.{Served}
-use Rattle.serving.specs.declared.Served.the-variants.{Refused, Listed}
-use Rattle.serving.proofs.JobPassed.{listed-fits}
+use Rattle.serving.proofs.JobPassed.{listed-passes, listed-replied, listed-fits}
 use Rattle.serving.proofs.Lent.{lent}
-use Rattle.serving.proofs.Demands.{zeros-length, listed-called}
 
 -- no text is longer than a full report's
 pub response-length : (job report : List ℕ) → length (responseTo job (served job report)) ≤ longest (recordsIn (inputCount job) report)
-unfolding responseBy
+unfolding responseBy isPage
 response-length job report = go (served job report .answer) refl
   where
-    go : (a : Served) → served job report .answer ≡ a → length (responseBy (inputCount job) a (served job report .report)) ≤ longest (recordsIn (inputCount job) report)
-    go (Refused r) e = omega (arith, refusal-length (jobNumber r))
-    go (Listed n m) e =
+    go : (a : Answer) → served job report .answer ≡ a → length (responseBy (inputCount job) a (served job report .report)) ≤ longest (recordsIn (inputCount job) report)
+    go (Refused r) e = omega (arith, refusal-length (number r))
+    go (Page n m) e =
         let l = served job report .report in
-        let f = listed-fits job report l (ap (λ (a : Served). servedLeft a l) (sym e)) in
-        omega (arith, listing-length (inputCount job) n m l)
+        let f = listed-fits job report l (ap (λ (a : Answer). reply a l) (sym e)) in
+        let few = yes-sized job (listed-passes job report (ap isPage e)) .inputs in
+        omega (arith, listing-length (inputCount job) n m l few)
 
 -- so where such a text fits, the whole text is written
 pub response-whole : (job report out : List ℕ) → longest (recordsIn (inputCount job) report) ≤ length out
@@ -63,23 +66,33 @@ module _ (memory : List ℕ) (words : ℕ) (c : Call) (bounded : Below (2 ^ 64) 
   abbrev ps : List Path
   ps = page j c
 
-  page-shown : {n : ℕ} {m : Bool} {left : List ℕ} (inputs : ℕ) → reply (Page n m) left ≡ replyTo memory words c → listingText inputs n m left ≡ listingOf (c .first) ps m
+  page-shown : {n : ℕ} {m : Bool} {left : List ℕ} → reply (Page n m) left ≡ replyTo memory words c → listingText (inputsOf c) n m left ≡ listingOf (c .first) ps m
   unfolding replyTo replyBy
-  page-shown {n} {m} {left} inputs e =
+  page-shown {n} {m} {left} e =
       let f : reply (Page n m) left ≡ replyBy memory words c none = e ∙ ap (replyBy memory words c) d in
       let a : Page n m ≡ Page (length ps) (ltb (c .first + length ps) (length (listing j))) = ap (λ (y : Reply). y .answer) f in
       let count : n ≡ length ps = cc in
       let bytes = ap (λ (y : Reply). y .report) f in
-      rw (count, bytes) (listing-told inputs (2 ^ 64) (drop (recordBytes (inputsOf c) * length ps) (c .report)) (c .first) ps m (page-few memory words c bounded typed d) (page-fits memory words c bounded typed d))
+      rw (count, bytes) (listing-told (inputsOf c) (2 ^ 64) (drop (recordBytes (inputsOf c) * length ps) (c .report)) (c .first) ps m (page-few memory words c bounded typed d) (page-fits memory words c bounded typed d) (page-inputs memory words c bounded typed d))
+
+inputs-in : (job report : List ℕ) → inputsOf (callIn job report) ≡ inputCount job
+unfolding jobRead
+inputs-in job report = omega (arith, intervals-length job)
+
+replied-passes : (memory : List ℕ) (words : ℕ) (c : Call) → isPage (replyTo memory words c .answer) ≡ true → refusalOf memory words c ≡ none
+unfolding replyTo
+replied-passes memory words c e = page-passes memory words c (refusalOf memory words c) e
 
 -- the text of a listing
-pub response-shown : {n : ℕ} {m : Bool} (job report : List ℕ) → Bytes job report → served job report .answer ≡ Listed n m
+pub response-shown : {n : ℕ} {m : Bool} (job report : List ℕ) → Bytes job report → served job report .answer ≡ Page n m
     → responseTo job (served job report) ≡ listingOf (callIn job report .first) (page (jobOf (jobRead job .memory) tableWords (callIn job report)) (callIn job report)) m
-unfolding responseBy isPage called replyTo
+unfolding responseBy isPage
 response-shown {n} {m} job report b e =
     let l = lent job report b in
     let c = callIn job report in
     let memory = jobRead job .memory in
-    let q : reply (Page n m) (served job report .report) ≡ replyTo memory tableWords c = rw zeros-length at (listed-called job report e) in
-    let a : isPage (replyTo memory tableWords c .answer) ≡ true = ap (λ (y : Reply). isPage (y .answer)) (sym q) in
-    rw e (page-shown memory tableWords c (l .memory-words) (l .typed) (page-passes memory tableWords c (refusalOf memory tableWords c) a) (inputCount job) q)
+    let listed : isPage (served job report .answer) ≡ true = ap isPage e in
+    let q = listed-replied job report listed in
+    let y : reply (Page n m) (served job report .report) ≡ replyTo memory tableWords c = ap (λ (a : Answer). reply a (served job report .report)) (sym e) ∙ q in
+    let a : isPage (replyTo memory tableWords c .answer) ≡ true = rw q at listed in
+    rw (e, ← inputs-in job report) (page-shown memory tableWords c (l .memory-words) (l .typed) (replied-passes memory tableWords c a) y)

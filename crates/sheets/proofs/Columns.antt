@@ -6,8 +6,8 @@ use Prim.Native.Nat.{ℕ, suc, _+_, _-_, _/_, _%_, _^_, _<_, _≤_}
 use native.Mathlib.Omega.{arith}
 use lib.ListN.{length, set, take, drop, length-append, length-replicate, replicate-append-replicate, length-set}
 use lib.Seq.{take-at, drop-at, take-append-add, drop-append-add, drop-cons, getD-set-same, take-set-le, drop-set-lt}
-use Rattle.riscu.specs.Word.{maxWord}
-use Rattle.blocks.specs.Writing.{put}
+use Rattle.words.specs.Word.{maxWord}
+use Rattle.blocks.specs.Working.Writing.{put}
 use Rattle.blocks.proofs.Puts.{put-none}
 use Rattle.printing.specs.Printed.{ascii, digit, digitsIn, digits}
 use Rattle.printing.proofs.Digits.{shown, digits-show, digits-length, digits-more, digits-one, one-digit, tenth-digits}

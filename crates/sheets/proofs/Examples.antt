@@ -7,14 +7,17 @@ use lib.ListN.{length, set, drop, replicate}
 use Rattle.boxes.specs.Boxes.{Interval, _⋯_, from, every}
 use Rattle.listing.specs.Listing.{Path}
 use Rattle.listing.specs.declared.End.the-variants.{Exit}
-use Rattle.riscu.specs.Word.{maxWord}
+use Rattle.words.specs.Word.{maxWord}
 use Rattle.blocks.specs.Block.{bytesOf, numberOf, checkFrom, block, each, checksAgree}
+use Rattle.blocks.specs.Layout.{lowAt, highAt}
 use Rattle.blocks.specs.Record.{padded, firstWords, secondWords, recordOf, records}
-use Rattle.calls.specs.Call.{firstNo}
+use Rattle.listing.specs.First.{first}
+use Rattle.calls.specs.Border.{refusedNumber}
+use Rattle.calls.specs.Done.{doneBy, refusalFrom}
 use Rattle.printing.specs.Printed.{ascii, digitsIn, digits}
 use Rattle.reports.specs.Readable.{readable}
 use Rattle.sheets.specs.Line.{sheetField, columns, sheetLine}
-use Rattle.sheets.specs.Sheet.{pathLine, inputLine, inputLines, recordLines, sheetText, sheetLength, sheetCallOf, sheetAsks, printedBy, printed, sheetAnswerNumber}
+use Rattle.sheets.specs.Sheet.{inputLines, pathLines, sheetLength, sheetCallOf, sheetQuestions, printed}
 
 -- a record with this number, kind and reason, and these lows and highs
 abbrev recordWith : ℕ → ℕ → ℕ → List ℕ → List ℕ → List ℕ
@@ -31,7 +34,7 @@ one = recordWith 1 1 0 (10 ∷ []) (255 ∷ [])
 unfoldable on : ℕ → List ℕ → ℕ → List ℕ
 on n report bytes =
     let l = printed (sheetCallOf n report (replicate bytes 35)) in
-    sheetAnswerNumber (l .answer) ∷ l .sheet
+    refusedNumber (refusalFrom (l .answer)) ∷ l .list
 
 unfoldable accepted : List (List ℕ)
 accepted =
@@ -63,7 +66,7 @@ sheets-printed : accepted
     ∷ (0 ∷ [])
     ∷ (0 ∷ ascii "###")
     ∷ []
-unfolding accepted records recordOf firstWords secondWords on printed printedBy sheetAsks firstNo readable every each checksAgree checkFrom numberOf bytesOf block from flatMap sheetText recordLines pathLine inputLines inputLine sheetLine columns sheetField digits digitsIn
+unfolding accepted records recordOf firstWords secondWords on doneBy sheetQuestions first readable every each checksAgree checkFrom numberOf bytesOf block lowAt highAt from flatMap pathLines inputLines sheetLine columns sheetField digits digitsIn
 sheets-printed = refl
 
 unfoldable refused : List (List ℕ)
@@ -95,7 +98,7 @@ sheets-refused : refused
     ∷ (12 ∷ replicate 146 35)
     ∷ (12 ∷ replicate 146 35)
     ∷ []
-unfolding refused on printed printedBy sheetAsks firstNo readable every each checksAgree checkFrom numberOf bytesOf block from flatMap sheetText recordLines pathLine inputLines inputLine sheetLine columns sheetField digits digitsIn
+unfolding refused on doneBy sheetQuestions first readable every each checksAgree checkFrom numberOf bytesOf block lowAt highAt from flatMap pathLines inputLines sheetLine columns sheetField digits digitsIn
 sheets-refused = refl
 
 -- a part of a record does not count; the last is the longest of 14 inputs that is a word

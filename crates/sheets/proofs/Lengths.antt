@@ -10,15 +10,17 @@ use native.Mathlib.Omega.{arith}
 use borrow.Author.Tests.{lt-leb, ltb-true, ltb-false}
 use lib.Dec.{leb, ltb}
 use lib.ListN.{length, length-append, length-map}
-use Rattle.boxes.specs.Boxes.{from}
+use Rattle.boxes.specs.Boxes.{Box, from}
 use Rattle.boxes.proofs.Lists.{by-test, length-from}
-use Rattle.riscu.specs.Word.{maxWord}
+use Rattle.words.specs.Word.{maxWord}
 use Rattle.blocks.specs.Record.{mostInputs, recordBytes}
 use Rattle.blocks.specs.Report.{recordsIn, recordAt}
-use Rattle.reports.specs.Readable.{recordsOf}
+use Rattle.blocks.specs.Said.{inputIn, saidAt}
+use Rattle.printing.proofs.Outputs.{flat-map}
 use Rattle.sheets.specs.Line.{lineBytes}
-use Rattle.sheets.specs.Sheet.{pathLine, inputLine, inputLines, recordLines, sheetText, sheetLength, sheetBytes}
+use Rattle.sheets.specs.Sheet.{inputLines, pathLines, sheetText, sheetLength, sheetBytes}
 use Rattle.sheets.proofs.Columns.{line-length}
+use Rattle.sheets.proofs.Told.{linesAt}
 
 -- parts of one length
 parts-length : {A : Type 0} (f : A → List ℕ) (k : ℕ) → ((x : A) → length (f x) ≡ k) → (xs : List A) → length (flatMap f xs) ≡ k * length xs
@@ -26,19 +28,23 @@ unfolding flatMap
 parts-length f k h [] = omega arith
 parts-length f k h (x ∷ xs) = rw (length-append, h x, parts-length f k h xs) (omega arith)
 
-record-length : (n : ℕ) (bytes : List ℕ) → length (recordLines n bytes) ≡ lineBytes * (1 + n)
-unfolding recordLines inputLines pathLine inputLine
-record-length n bytes =
-    let inputs = parts-length (inputLine bytes) lineBytes (λ i. line-length i _ _) (from 0 n) in
-    rw (length-append, line-length, inputs, length-from n 0) (omega arith)
+inputs-length : (i : ℕ) (b : Box) → length (inputLines i b) ≡ lineBytes * length b
+unfolding inputLines
+inputs-length i [] = omega arith
+inputs-length i (v ∷ b) = rw (length-append, line-length, inputs-length (i + 1) b) (omega arith)
+
+record-length : (n : ℕ) (report : List ℕ) (k : ℕ) → length (linesAt n report k) ≡ lineBytes * (1 + n)
+unfolding pathLines
+record-length n report k =
+    let inputs : length (saidAt n report k .box) ≡ n = length-map (from 0 n) (inputIn n (recordAt n report k)) ∙ length-from n 0 in
+    rw (length-append, line-length, inputs-length 0 (saidAt n report k .box), inputs) (omega arith)
 
 -- known before a byte is written
 pub text-length : (n : ℕ) (report : List ℕ) → length (sheetText n report) ≡ sheetLength n (length report)
-unfolding sheetText
 text-length n report =
-    let each = parts-length (recordLines n) (lineBytes * (1 + n)) (record-length n) (recordsOf n report) in
-    let count : length (recordsOf n report) ≡ recordsIn n report = length-map (from 0 (recordsIn n report)) (recordAt n report) ∙ length-from (recordsIn n report) 0 in
-    rw (each, count) (mul-assoc lineBytes (1 + n) (recordsIn n report))
+    let count = recordsIn n report in
+    let each = parts-length (linesAt n report) (lineBytes * (1 + n)) (record-length n report) (from 0 count) in
+    rw (flat-map pathLines (saidAt n report) (from 0 count), each, length-from count 0) (mul-assoc lineBytes (1 + n) count)
 
 -- The length that `sheet_bytes` works out, from the size of a record.
 

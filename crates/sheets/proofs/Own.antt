@@ -1,11 +1,10 @@
 -- The sheets of our own reports: a page that a call wrote, and a complete report, are printed as the paths of the listing.
 -- Assumes nothing.
-use mathlib.Core.Path.{_≡_, ap, _∙_}
+use mathlib.Core.Path.{_≡_, sym, ap, _∙_}
 use mathlib.Core.Bool.{true}
 use mathlib.Core.List.{List, _++_}
 use Prim.Native.Nat.{ℕ}
 use native.Mathlib.Omega.{arith}
-use borrow.Author.Tests.{le-leb}
 use lib.ListN.{length, drop}
 use Rattle.boxes.specs.Boxes.{keep, _∈_}
 use Rattle.listing.specs.Group.{Job}
@@ -14,7 +13,9 @@ use Rattle.blocks.specs.Record.{records}
 use Rattle.calls.specs.Call.{Call, inputsOf, jobOf, page}
 use Rattle.calls.specs.Engine.{Engine, Lent, Meets, Exchange, History}
 use Rattle.calls.specs.Together.{isAccepted, bytesWritten}
-use Rattle.calls.proofs.Asked.{all-yes}
+use Rattle.calls.specs.Done.{doneLeft}
+use Rattle.calls.specs.declared.Completion.the-variants.{Done}
+use Rattle.calls.proofs.Done.{left-done}
 use Rattle.demands.proofs.Accepted.{paths-fit}
 use Rattle.demands.proofs.Demands.{history-fair}
 use Rattle.demands.proofs.Histories.{Fair}
@@ -24,26 +25,21 @@ use Rattle.reports.specs.Readable.{readable}
 use Rattle.reports.specs.Placed.{OwnReport}
 use Rattle.reports.proofs.Own.{report-is, own-writable, own-readable}
 use Rattle.reports.proofs.Written.{Writable, written-readable}
-use Rattle.sheets.specs.Sheet.{SheetCall, sheetCallOf, lengthOf, sheetLeft, sheetAsks, sheetQuestions}
+use Rattle.sheets.specs.Sheet.{SheetCall, sheetCallOf, sheetQuestions, sheetDeed}
 use Rattle.sheets.specs.Printed.{PrintedAs, PagePrinted, ListingPrinted}
-use Rattle.sheets.specs.declared.SheetRefusal.{SheetRefusal}
-use Rattle.sheets.specs.declared.SheetRefusal.the-variants.{Records, Short}
-use Rattle.sheets.specs.declared.SheetAnswer.the-variants.{Printed}
-use Rattle.sheets.proofs.Promises.{left-printed}
+use Rattle.sheets.proofs.Lengths.{text-length}
+use Rattle.sheets.proofs.Promises.{both-yes}
 use Rattle.sheets.proofs.Told.{sheet-told}
 
 -- of written records that question 12 lets pass
 written-printed : {n first : ℕ} {ps : List Path} → Writable n first ps → readable n (records first ps) ≡ true → PrintedAs n (records first ps) first ps
 written-printed {n} {first} {ps} w passes sheet room =
-    left-printed c (all-yes (sheetAsks c) sheetQuestions .1 (λ q m. yes q))
-    ∙ ap (λ (text : List ℕ). sheetLeft Printed (text ++ drop (length text) sheet)) (sheet-told w)
+    left-done (sheetQuestions c) (sheetDeed c) (both-yes c passes room)
+    ∙ ap (λ (size : ℕ). doneLeft (Done size) (sheetDeed c .after)) (sym (text-length n (records first ps)))
+    ∙ ap (λ (text : List ℕ). doneLeft (Done (length text)) (text ++ drop (length text) sheet)) (sheet-told w)
   where
     c : SheetCall
     c = sheetCallOf n (records first ps) sheet
-
-    yes : (q : SheetRefusal) → sheetAsks c q ≡ true
-    yes Records = unfold sheetAsks in passes
-    yes Short = unfold sheetAsks in le-leb (lengthOf c) (length sheet) room
 
 -- of what an engine that meets the contract of a call wrote
 module _ (E : Engine) (meets : Meets E) {memory table : List ℕ} {xs : List Exchange} (lent : (x : Exchange) → x ∈ xs → Lent memory table (x .call))

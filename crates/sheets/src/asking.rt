@@ -1,16 +1,21 @@
 // The sheet's length, and the questions 12 and 14; the first no decides.
-use crate::SheetAnswer;
-use crate::SheetRefusal;
 use blocks::report::record_bytes;
+use calls::Questioned;
+use calls::Refusal;
 use reports::asking::is_readable;
+use words::MAX;
 ghost use mathlib.Core.Path.{_≡_};
-ghost use Rattle.sheets.specs.Sheet.{sheetBytes, sheetFits, printedOn};
+ghost use lib.ListN.{length};
+ghost use Rattle.listing.specs.First.{first};
+ghost use Rattle.calls.specs.Working.Asking.{refusalIn};
+ghost use Rattle.calls.specs.Questions.{spaceFits};
+ghost use Rattle.sheets.specs.Sheet.{sheetLength, sheetBytes, sheetQuestions, sheetCallLent};
 
 // 72 columns and a line feed.
 pub(crate) const LINE_BYTES: usize = 73;
 
 // MAX: no sheet has this length, which is no whole number of lines.
-const TOO_LONG: usize = 18446744073709551615;
+const TOO_LONG: usize = MAX as usize;
 
 // The length of a sheet, or MAX if it is no word.
 pub fn sheet_bytes(inputs: u64, report_bytes: usize) -> usize
@@ -29,21 +34,21 @@ pub fn sheet_bytes(inputs: u64, report_bytes: usize) -> usize
 
 // Question 14; if the length is no word, no sheet is long enough.
 fn sheet_fits(inputs: u64, report: &[u8], sheet: &[u8]) -> bool
-    ensures { λ r. ⌜ r ≡ sheetFits inputs (now (report .entry)) (now (sheet .entry)) ⌝ }
+    ensures { λ r. ⌜ r ≡ spaceFits (sheetLength inputs (length (now (report .entry)))) (length (now (sheet .entry))) ⌝ }
 {
     let bytes = sheet_bytes(inputs, report.len());
     (bytes < TOO_LONG) & (bytes <= sheet.len())
 }
 
 // The first no of questions 12 and 14, or that both have the answer yes.
-pub(crate) fn ask_sheet(inputs: u64, report: &[u8], sheet: &[u8]) -> SheetAnswer
-    ensures { λ r. ⌜ r ≡ printedOn inputs report sheet .answer ⌝ }
+pub(crate) fn ask_sheet(inputs: u64, report: &[u8], sheet: &[u8]) -> Questioned
+    ensures { λ r. ⌜ refusalIn r ≡ first (sheetQuestions (sheetCallLent inputs report sheet)) ⌝ }
 {
     if !is_readable(inputs, report) {
-        return SheetAnswer::Refused(SheetRefusal::Records);
+        return Questioned::No(Refusal::Records);
     }
     if !sheet_fits(inputs, report, sheet) {
-        return SheetAnswer::Refused(SheetRefusal::Short);
+        return Questioned::No(Refusal::Space);
     }
-    SheetAnswer::Printed
+    Questioned::AllYes
 }

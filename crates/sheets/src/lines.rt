@@ -12,12 +12,13 @@ ghost use mathlib.Core.Path.{_≡_};
 ghost use Prim.Native.Nat.{_+_, _-_, _≤_, _<_};
 ghost use lib.ListN.{length};
 ghost use Rattle.blocks.specs.Record.{mostInputs};
-ghost use Rattle.blocks.specs.Report.{recordsIn, recordAt};
-ghost use Rattle.blocks.specs.Writing.{put};
-ghost use Rattle.printing.specs.Output.{Writes, fitted};
+ghost use Rattle.blocks.specs.Report.{recordsIn};
+ghost use Rattle.blocks.specs.Said.{saidAt};
+ghost use Rattle.blocks.specs.Working.Writing.{put};
+ghost use Rattle.printing.specs.Working.Writing.{Writes, Prints};
 ghost use Rattle.printing.specs.Printed.{digits};
 ghost use Rattle.sheets.specs.Line.{fieldColumns, sheetLine};
-ghost use Rattle.sheets.specs.Sheet.{inputLines, recordLines, sheetText};
+ghost use Rattle.sheets.specs.Sheet.{inputLines, pathLines, sheetText};
 
 // Columns of a field: MAX has as many digits.
 const FIELD_COLUMNS: usize = 20;
@@ -63,7 +64,7 @@ fn put_sheet_line(out: &mut [u8], at: usize, a: u64, b: u64, c: u64) -> usize
 // The inputs of a record, a line for each.
 fn put_inputs(report: &[u8], inputs: usize, k: usize, out: &mut [u8], at: usize) -> usize
     requires { ⌜ (k < recordsIn inputs (now report)) × (inputs ≤ mostInputs) ⌝ }
-    ensures { λ r. ⌜ Writes out at r (inputLines inputs (recordAt inputs (now (report .entry)) k)) ⌝ }
+    ensures { λ r. ⌜ Writes out at r (inputLines 0 (saidAt inputs (now (report .entry)) k .box)) ⌝ }
 {
     let mut p = at;
     let mut i: usize = 0;
@@ -79,7 +80,7 @@ fn put_inputs(report: &[u8], inputs: usize, k: usize, out: &mut [u8], at: usize)
 // The lines of a record.
 fn put_record(report: &[u8], inputs: usize, k: usize, out: &mut [u8], at: usize) -> usize
     requires { ⌜ (k < recordsIn inputs (now report)) × (inputs ≤ mostInputs) ⌝ }
-    ensures { λ r. ⌜ Writes out at r (recordLines inputs (recordAt inputs (now (report .entry)) k)) ⌝ }
+    ensures { λ r. ⌜ Writes out at r (pathLines (saidAt inputs (now (report .entry)) k)) ⌝ }
 {
     let number = record_word(report, inputs, k, NUMBER);
     let kind = record_word(report, inputs, k, KIND);
@@ -88,10 +89,10 @@ fn put_record(report: &[u8], inputs: usize, k: usize, out: &mut [u8], at: usize)
     put_inputs(report, inputs, k, out, p)
 }
 
-// The whole sheet at the start of `out`, as far as it fits.
-pub(crate) fn put_sheet(report: &[u8], inputs: usize, out: &mut [u8])
+// The whole sheet at the start of `out`, as far as it fits; the answer is how many bytes of it stand there.
+pub(crate) fn put_sheet(report: &[u8], inputs: usize, out: &mut [u8]) -> usize
     requires { ⌜ inputs ≤ mostInputs ⌝ }
-    ensures { λ _. ⌜ now (out .exit) ≡ fitted (sheetText inputs (now (report .entry))) (now (out .entry)) ⌝ }
+    ensures { λ r. ⌜ Prints out r (sheetText inputs (now (report .entry))) ⌝ }
 {
     let n = records_in(report, inputs);
     let mut p: usize = 0;
@@ -100,4 +101,5 @@ pub(crate) fn put_sheet(report: &[u8], inputs: usize, out: &mut [u8])
         p = put_record(report, inputs, k, out, p);
         k += 1;
     }
+    p
 }

@@ -13,16 +13,16 @@ use Rattle.riscu.specs.declared.Instruction.{Instruction}
 use Rattle.riscu.specs.declared.Decoded.{Decoded}
 use Rattle.riscu.specs.declared.Decoded.the-variants.{Row, NoRow}
 use Rattle.listing.specs.Ending.{points, writes}
-use Rattle.decide.specs.Corner.{cornerView, verdict, sameClass, onward, unlessEnds, rowDecision, decision}
+use Rattle.decide.specs.Working.Corner.{cornerView, verdict, sameClass, onward, unlessEnds, rowDecision, decision}
 use Rattle.decide.specs.declared.Limits.{Limits}
 use Rattle.decide.specs.declared.Used.{Used}
 use Rattle.decide.specs.declared.Verdict.{Verdict}
 use Rattle.decide.specs.declared.Verdict.the-variants.{Ends, Passes}
 use Rattle.decide.specs.declared.Decision.{Decision}
 use Rattle.decide.specs.declared.Decision.the-variants.{Ended, Steps, Forks}
-use Rattle.lockstep.specs.Together.{Machines}
+use Rattle.lockstep.specs.Working.LockStep.{Machines}
 use Rattle.lockstep.specs.declared.Corners.{Corners}
-use Rattle.straight.specs.Stepped.{Decided}
+use Rattle.straight.specs.Working.Stepped.{Decided}
 
 -- a step that is decided on takes no more entries than are left
 module _ (entries : ℕ) (left : Bool) where

@@ -8,10 +8,10 @@ use Rattle.riscu.specs.declared.Decoded.{Decoded}
 use Rattle.decide.specs.declared.Limits.{Limits}
 use Rattle.decide.specs.declared.Used.{Used}
 use Rattle.riscu.specs.Machine.{fetch}
-use Rattle.lockstep.specs.Together.{Pair, Machines, both, advancedBy}
+use Rattle.lockstep.specs.Working.LockStep.{Pair, Machines, both, advancedBy}
 use Rattle.lockstep.specs.declared.Corners.{Corners}
 use Rattle.lockstep.proofs.LockStep.{one-more}
-use Rattle.straight.specs.Stepped.{Place, place, StraightRun, none, more, Onward}
+use Rattle.straight.specs.Working.Stepped.{Place, place, StraightRun, none, more, Onward}
 
 module _ {code : List ℕ} {m : Limits} {p : Place} where
   -- machines that have not moved

@@ -16,14 +16,14 @@ use Rattle.riscu.specs.declared.Decoded.{Decoded}
 use Rattle.riscu.specs.declared.Decoded.the-variants.{Row}
 use Rattle.listing.specs.Group.{classOf}
 use Rattle.listing.specs.Ending.{points, writes}
-use Rattle.decide.specs.Corner.{cornerView, machine, sameClass, verdict, onward, unlessEnds, rowDecision, decision}
+use Rattle.decide.specs.Working.Corner.{cornerView, machine, sameClass, verdict, onward, unlessEnds, rowDecision, decision}
 use Rattle.decide.specs.declared.Limits.{Limits}
 use Rattle.decide.specs.declared.Used.{Used}
 use Rattle.decide.specs.declared.Decision.the-variants.{Steps}
 use Rattle.decide.specs.declared.Verdict.the-variants.{Passes}
-use Rattle.lockstep.specs.Together.{Machines}
+use Rattle.lockstep.specs.Working.LockStep.{Machines}
 use Rattle.lockstep.specs.declared.Corners.{Corners}
-use Rattle.straight.specs.Stepped.{Goes, Stepped, FormStepped, DecidedStep}
+use Rattle.straight.specs.Working.Stepped.{Goes, Stepped, FormStepped, DecidedStep}
 use Rattle.straight.specs.declared.Straight.{Straight}
 use Rattle.straight.specs.declared.Straight.the-variants.{Taken, Left}
 

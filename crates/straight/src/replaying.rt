@@ -3,9 +3,9 @@ use crate::steps::straight_steps;
 use decide::Limits;
 use decide::Used;
 use lockstep::Corners;
+use lockstep::advancing::advance;
+use lockstep::advancing::advance_read;
 use lockstep::tags::clear;
-use lockstep::together::advance;
-use lockstep::together::advance_read;
 use riscu::Decoded;
 use riscu::decoder::decode;
 use riscu::plain::Memory;
@@ -13,9 +13,10 @@ use riscu::plain::Registers;
 use runs::running::begin;
 ghost use mathlib.Core.Path.{_≡_};
 ghost use Prim.Native.Nat.{_<_, _≤_};
+ghost use Rattle.riscu.specs.Lent.{lent};
 ghost use Rattle.riscu.specs.Machine.{fetch};
-ghost use Rattle.lockstep.specs.Together.{both, machinesBefore, machinesAfter, advancedBy, together, starting};
-ghost use Rattle.straight.specs.Stepped.{Onward};
+ghost use Rattle.lockstep.specs.Working.LockStep.{both, lentMachines, advancedBy, lockSteps, starting};
+ghost use Rattle.straight.specs.Working.Stepped.{Onward};
 
 // The step of what a word is, at both corners; where it is no instruction, nothing moves.
 fn advance_by(
@@ -31,9 +32,8 @@ fn advance_by(
     at: Corners,
 ) -> Corners
     ensures { λ r.
-        let p = both at (machinesBefore low lowmem high highmem tags tagmem) in
-        let q = both r (machinesAfter low lowmem high highmem tags tagmem) in
-        ⌜ q ≡ advancedBy (now (lows .entry)) (now (highs .entry)) d p ⌝ }
+        let m = lentMachines low lowmem high highmem tags tagmem in
+        ⌜ both r (m .after) ≡ advancedBy (lent lows) (lent highs) d (both at (m .before)) ⌝ }
 {
     let Decoded::Row(i) = d else {
         return at;
@@ -56,9 +56,8 @@ fn advance_next(
     at: Corners,
 ) -> Corners
     ensures { λ r.
-        let p = both at (machinesBefore low lowmem high highmem tags tagmem) in
-        let q = both r (machinesAfter low lowmem high highmem tags tagmem) in
-        ⌜ q ≡ advancedBy (now (lows .entry)) (now (highs .entry)) (fetch (now (code .entry)) (at .low .pc)) p ⌝ }
+        let m = lentMachines low lowmem high highmem tags tagmem in
+        ⌜ both r (m .after) ≡ advancedBy (lent lows) (lent highs) (fetch (lent code) (at .low .pc)) (both at (m .before)) ⌝ }
 {
     let l = at.low;
     let pc = l.pc;
@@ -87,7 +86,7 @@ pub struct Advanced {
 // Straight steps in a row, and then another one, if some are left. One entry for each step is room for all of them.
 fn some_steps(
     code: &[u32],
-    k: usize,
+    steps: usize,
     n: usize,
     low: &mut Registers,
     lowmem: &mut Memory,
@@ -99,22 +98,18 @@ fn some_steps(
     highs: &[u64],
     from: Corners,
 ) -> Advanced
-    requires { ⌜ k < n ⌝ }
-    ensures { λ r. ⌜ (k < r .steps) × (r .steps ≤ n) ⌝ }
+    requires { ⌜ steps < n ⌝ }
+    ensures { λ r. ⌜ (steps < r .steps) × (r .steps ≤ n) ⌝ }
     ensures { λ r.
-        let p = both from (machinesBefore low lowmem high highmem tags tagmem) in
-        let q = both (r .at) (machinesAfter low lowmem high highmem tags tagmem) in
-        ⌜ Onward (now (lows .entry)) (now (highs .entry)) (now (code .entry)) k p (r .steps) q ⌝ }
+        let m = lentMachines low lowmem high highmem tags tagmem in
+        ⌜ Onward (lent lows) (lent highs) (lent code) steps (both from (m .before)) (r .steps) (both (r .at) (m .after)) ⌝ }
 {
     let limits = Limits {
         steps: n,
         entries: n,
         inputs: 0,
     };
-    let used = Used {
-        steps: k,
-        entries: 0,
-    };
+    let used = Used { steps, entries: 0 };
     let r = straight_steps(
         code,
         limits,
@@ -129,9 +124,9 @@ fn some_steps(
     );
     let u = r.used;
     let at = r.at;
-    let steps = u.steps;
-    if n <= steps {
-        return Advanced { steps, at };
+    let done = u.steps;
+    if n <= done {
+        return Advanced { steps: done, at };
     }
     let to = advance_next(
         code,
@@ -146,7 +141,7 @@ fn some_steps(
         at,
     );
     Advanced {
-        steps: steps + 1,
+        steps: done + 1,
         at: to,
     }
 }
@@ -166,9 +161,8 @@ fn proceed_both(
     from: Corners,
 ) -> Corners
     ensures { λ r.
-        let p = both from (machinesBefore low lowmem high highmem tags tagmem) in
-        let q = both r (machinesAfter low lowmem high highmem tags tagmem) in
-        ⌜ q ≡ together (now (lows .entry)) (now (highs .entry)) (now (code .entry)) n p ⌝ }
+        let m = lentMachines low lowmem high highmem tags tagmem in
+        ⌜ both r (m .after) ≡ lockSteps (lent lows) (lent highs) (lent code) n (both from (m .before)) ⌝ }
 {
     let mut at = from;
     let mut k: usize = 0;
@@ -208,8 +202,8 @@ pub fn replay(
     highs: &[u64],
 ) -> Corners
     ensures { λ r.
-        let q = both r (machinesAfter low lowmem high highmem tags tagmem) in
-        ⌜ q ≡ together (now (lows .entry)) (now (highs .entry)) (now (code .entry)) n (starting (now (memory .entry))) ⌝ }
+        let m = lentMachines low lowmem high highmem tags tagmem in
+        ⌜ both r (m .after) ≡ lockSteps (lent lows) (lent highs) (lent code) n (starting (lent memory)) ⌝ }
 {
     let a = begin(memory, low, lowmem);
     let b = begin(memory, high, highmem);

@@ -1,11 +1,12 @@
 // The straight step of each row that most steps are. A row that a call or a computed jump is, is left.
 use crate::Straight;
 use decide::Verdict;
-use decide::classes::addi_class;
 use decide::classes::branch_class;
+use decide::classes::immediate_class;
 use decide::classes::operation_class;
 use decide::group::one_unless_zero;
 use decide::order::access_points;
+use decide::order::immediate_points;
 use decide::order::open_points;
 use decide::order::register_points;
 use lockstep::Corners;
@@ -13,6 +14,7 @@ use lockstep::tags::mark_copied;
 use lockstep::tags::mark_loaded;
 use lockstep::tags::mark_result;
 use lockstep::tags::mark_stored;
+use riscu::Condition;
 use riscu::Operation;
 use riscu::decoder::imm_b;
 use riscu::decoder::imm_i;
@@ -22,19 +24,19 @@ use riscu::decoder::imm_u;
 use riscu::decoder::row_of;
 use riscu::plain::Memory;
 use riscu::plain::Registers;
-use riscu::plain::addi;
 use riscu::plain::arithmetic;
-use riscu::plain::beq;
+use riscu::plain::branch;
+use riscu::plain::immediate;
 use riscu::plain::jal;
 use riscu::plain::ld;
 use riscu::plain::lui;
 use riscu::plain::put;
 use riscu::plain::sd;
-ghost use Rattle.riscu.specs.declared.Instruction.the-variants.{Lui, Addi, Register, Ld, Sd, Beq, Jal};
+ghost use Rattle.riscu.specs.declared.Instruction.the-variants.{Lui, Immediate, Register, Ld, Sd, Branch, Jal};
 ghost use Rattle.riscu.specs.Decode.{decodeOf};
-ghost use Rattle.riscu.specs.Table.{formOf};
-ghost use Rattle.lockstep.specs.Together.{machinesBefore, machinesAfter};
-ghost use Rattle.straight.specs.Stepped.{Stepped, RegistersStepped, NothingWritten, FormStepped};
+ghost use Rattle.riscu.specs.Working.Table.{formOf};
+ghost use Rattle.lockstep.specs.Working.LockStep.{lentMachines};
+ghost use Rattle.straight.specs.Working.Stepped.{Stepped, RegistersStepped, NothingWritten, FormStepped};
 
 fn straight_lui(
     entries: usize,
@@ -60,20 +62,25 @@ fn straight_lui(
     }
 }
 
-fn straight_addi(
+fn straight_immediate(
     entries: usize,
     low: &mut Registers,
     high: &mut Registers,
     tags: &mut Registers,
+    op: Operation,
     rd: usize,
     rs1: usize,
     imm: i64,
     at: Corners,
 ) -> Straight
-    ensures { λ r. ⌜ RegistersStepped entries (Addi rd rs1 imm) at low high tags r ⌝ }
+    ensures { λ r. ⌜ RegistersStepped entries (Immediate op rd rs1 imm) at low high tags r ⌝ }
 {
-    let a = addi_class(low, rd, rs1, imm);
-    let b = addi_class(high, rd, rs1, imm);
+    let v = immediate_points(op, rd, low, high, rs1, imm);
+    let Verdict::Passes = v else {
+        return Straight::Left;
+    };
+    let a = immediate_class(low, op, rd, rs1, imm);
+    let b = immediate_class(high, op, rd, rs1, imm);
     if a != b {
         return Straight::Left;
     }
@@ -82,8 +89,8 @@ fn straight_addi(
         return Straight::Left;
     }
     mark_copied(tags, rd, rs1);
-    let l = addi(low, rd, rs1, imm, at.low);
-    let h = addi(high, rd, rs1, imm, at.high);
+    let l = immediate(low, op, rd, rs1, imm, at.low);
+    let h = immediate(high, op, rd, rs1, imm, at.high);
     Straight::Taken {
         at: Corners { low: l, high: h },
         writes: w,
@@ -139,9 +146,8 @@ fn straight_load(
     at: Corners,
 ) -> Straight
     ensures { λ r.
-        let x = machinesBefore low lowmem high highmem tags tagmem in
-        let y = machinesAfter low lowmem high highmem tags tagmem in
-        ⌜ Stepped entries (Ld rd rs1 imm) at x y r ⌝ }
+        let m = lentMachines low lowmem high highmem tags tagmem in
+        ⌜ Stepped entries (Ld rd rs1 imm) at (m .before) (m .after) r ⌝ }
 {
     let v = access_points(low, high, rs1, imm);
     let Verdict::Passes = v else {
@@ -174,9 +180,8 @@ fn straight_store(
     at: Corners,
 ) -> Straight
     ensures { λ r.
-        let x = machinesBefore low lowmem high highmem tags tagmem in
-        let y = machinesAfter low lowmem high highmem tags tagmem in
-        ⌜ Stepped entries (Sd rs1 rs2 imm) at x y r ⌝ }
+        let m = lentMachines low lowmem high highmem tags tagmem in
+        ⌜ Stepped entries (Sd rs1 rs2 imm) at (m .before) (m .after) r ⌝ }
 {
     let v = access_points(low, high, rs1, imm);
     let Verdict::Passes = v else {
@@ -197,24 +202,25 @@ fn straight_store(
 fn straight_branch(
     low: &Registers,
     high: &Registers,
+    on: Condition,
     rs1: usize,
     rs2: usize,
     imm: i64,
     at: Corners,
 ) -> Straight
-    ensures { λ r. ⌜ NothingWritten (Beq rs1 rs2 imm) at (now (low .entry)) (now (high .entry)) r ⌝ }
+    ensures { λ r. ⌜ NothingWritten (Branch on rs1 rs2 imm) at (now (low .entry)) (now (high .entry)) r ⌝ }
 {
     let v = open_points(low, high, rs1, rs2);
     let Verdict::Passes = v else {
         return Straight::Left;
     };
-    let a = branch_class(low, rs1, rs2);
-    let b = branch_class(high, rs1, rs2);
+    let a = branch_class(low, on, rs1, rs2);
+    let b = branch_class(high, on, rs1, rs2);
     if a != b {
         return Straight::Left;
     }
-    let l = beq(low, rs1, rs2, imm, at.low);
-    let h = beq(high, rs1, rs2, imm, at.high);
+    let l = branch(low, on, rs1, rs2, imm, at.low);
+    let h = branch(high, on, rs1, rs2, imm, at.high);
     Straight::Taken {
         at: Corners { low: l, high: h },
         writes: 0,
@@ -259,16 +265,25 @@ fn straight_row(
     at: Corners,
 ) -> Straight
     ensures { λ r.
-        let x = machinesBefore low lowmem high highmem tags tagmem in
-        let y = machinesAfter low lowmem high highmem tags tagmem in
-        ⌜ FormStepped entries (formOf row w) at x y r ⌝ }
+        let m = lentMachines low lowmem high highmem tags tagmem in
+        ⌜ FormStepped entries (formOf row w) at (m .before) (m .after) r ⌝ }
 {
     let rd = w / 128 % 32;
     let rs1 = w / 32768 % 32;
     let rs2 = w / 1048576 % 32;
     match row {
         0 => straight_lui(entries, low, high, tags, rd, imm_u(w), at),
-        1 => straight_addi(entries, low, high, tags, rd, rs1, imm_i(w), at),
+        1 => straight_immediate(
+            entries,
+            low,
+            high,
+            tags,
+            Operation::Add,
+            rd,
+            rs1,
+            imm_i(w),
+            at,
+        ),
         2 => straight_operation(entries, low, high, tags, Operation::Add, rd, rs1, rs2, at),
         3 => straight_operation(entries, low, high, tags, Operation::Sub, rd, rs1, rs2, at),
         4 => straight_operation(entries, low, high, tags, Operation::Mul, rd, rs1, rs2, at),
@@ -301,7 +316,7 @@ fn straight_row(
             imm_s(w),
             at,
         ),
-        10 => straight_branch(low, high, rs1, rs2, imm_b(w), at),
+        10 => straight_branch(low, high, Condition::Equal, rs1, rs2, imm_b(w), at),
         11 => straight_jump(entries, low, high, tags, rd, imm_j(w), at),
         _ => Straight::Left,
     }
@@ -320,9 +335,8 @@ pub(crate) fn straight_word(
     at: Corners,
 ) -> Straight
     ensures { λ r.
-        let x = machinesBefore low lowmem high highmem tags tagmem in
-        let y = machinesAfter low lowmem high highmem tags tagmem in
-        ⌜ FormStepped entries (decodeOf word) at x y r ⌝ }
+        let m = lentMachines low lowmem high highmem tags tagmem in
+        ⌜ FormStepped entries (decodeOf word) at (m .before) (m .after) r ⌝ }
 {
     let w = word as usize;
     let row = row_of(w);

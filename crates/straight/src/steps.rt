@@ -8,8 +8,9 @@ use decide::group::entries_left;
 use lockstep::Corners;
 use riscu::plain::Memory;
 use riscu::plain::Registers;
-ghost use Rattle.lockstep.specs.Together.{machinesBefore, machinesAfter};
-ghost use Rattle.straight.specs.Stepped.{DecidedStep, place, StraightRun};
+ghost use Rattle.riscu.specs.Lent.{lent};
+ghost use Rattle.lockstep.specs.Working.LockStep.{lentMachines};
+ghost use Rattle.straight.specs.Working.Stepped.{DecidedStep, place, StraightRun};
 
 // Takes the next step, where it is straight and its row is one of the usual ones. Which straight steps it leaves is free: nothing has moved then.
 fn straight_step(
@@ -25,9 +26,8 @@ fn straight_step(
     at: Corners,
 ) -> Straight
     ensures { λ r.
-        let x = machinesBefore low lowmem high highmem tags tagmem in
-        let y = machinesAfter low lowmem high highmem tags tagmem in
-        ⌜ DecidedStep (now (code .entry)) limits used at x y r ⌝ }
+        let m = lentMachines low lowmem high highmem tags tagmem in
+        ⌜ DecidedStep (lent code) limits used at (m .before) (m .after) r ⌝ }
 {
     if used.steps == limits.steps {
         return Straight::Left;
@@ -71,9 +71,8 @@ pub fn straight_steps(
     at: Corners,
 ) -> Ran
     ensures { λ r.
-        let x = machinesBefore low lowmem high highmem tags tagmem in
-        let y = machinesAfter low lowmem high highmem tags tagmem in
-        ⌜ StraightRun (now (code .entry)) limits (place used at x) (place (r .used) (r .at) y) ⌝ }
+        let m = lentMachines low lowmem high highmem tags tagmem in
+        ⌜ StraightRun (lent code) limits (place used at (m .before)) (place (r .used) (r .at) (m .after)) ⌝ }
 {
     let mut so_far = used;
     let mut corners = at;

@@ -7,7 +7,7 @@ use native.Mathlib.Numerals.{add-one}
 use borrow.Author.Tests.{lt-ltb, le-ltb, eq-eqb, ne-eqb}
 use lib.ListN.{length, getD, drop, drop-of-length-le}
 use lib.Seq.{drop-cons}
-use Rattle.vectors.specs.Text.{digitOf, numberFrom, lineFrom}
+use Rattle.vectors.specs.Working.Text.{digitOf, numberFrom, lineFrom}
 
 module _ (s : List ℕ) (i : ℕ) where
   abbrev byte : ℕ

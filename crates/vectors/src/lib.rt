@@ -4,7 +4,7 @@
 ghost use mathlib.Core.Path.{_≡_};
 ghost use mathlib.Core.Bool.{cond};
 ghost use lib.ListN.{drop};
-ghost use Rattle.vectors.specs.Text.{digitOf, numberFrom, Ends};
+ghost use Rattle.vectors.specs.Working.Text.{digitOf, numberFrom, Ends};
 
 // A number, and the place after the byte that ends it.
 pub struct Number {

@@ -7,12 +7,15 @@ use lib.Dec.{eqb}
 use lib.ListN.{set, replicate}
 use Rattle.boxes.specs.Boxes.{from}
 use Rattle.riscu.specs.Limits.{codeWords, memoryWords}
+use Rattle.listing.specs.First.{first}
 use Rattle.blocks.specs.Block.{blockBytes, blockWords, bytesOf, numberOf, wordAt, checkFrom, block, blockCount}
-use Rattle.calls.specs.Call.{boxOf, inOrder, asks, firstNo}
+use Rattle.calls.specs.Call.{boxOf}
+use Rattle.calls.specs.Done.{doneBy}
+use Rattle.calls.specs.Questions.{inOrder}
 use Rattle.jobs.specs.Job.{JobRead, mostBlocks}
 use Rattle.jobs.proofs.Examples.{code}
-use Rattle.writing.specs.Form.{givenOf, headerWords, codePairs, partBlocks, jobForm, formLength}
-use Rattle.writing.specs.Write.{valuesOf, writeCallOf, writeAsks, jobWrittenBy, jobWritten, writeOutcome}
+use Rattle.writing.specs.Form.{givenOf, storedInputs, headerWords, codePairs, partBlocks, jobForm, formLength}
+use Rattle.writing.specs.Write.{valuesOf, writeCallOf, valueQuestions, jobWritten, writeOutcome}
 
 -- the words of a job that are not 0, each behind its place
 unfoldable pub shownAt : List ℕ → ℕ → List ℕ
@@ -24,15 +27,12 @@ shown j = flatMap (shownAt (jobForm j)) (from 0 (blockWords * blockCount (jobFor
 unfoldable pub zeros : List ℕ
 zeros = replicate memoryWords 0
 
--- Job A; an odd code, with a zero word in the middle of memory; no input and no memory word; two code blocks and two memory blocks, all
--- inputs; and the last word of memory alone
+-- Job A; an odd code, with a zero word in the middle of memory; two code blocks and two memory blocks, all inputs
 unfoldable pub jobs : List (List ℕ)
 jobs =
     shown (valuesOf code zeros (0 ∷ 255 ∷ []) 100 0)
     ∷ shown (valuesOf (7 ∷ 8 ∷ 9 ∷ []) (set (set zeros 1 5) 3 (2 ^ 64 - 1)) (1 ∷ 2 ∷ 3 ∷ (2 ^ 64 - 1) ∷ []) 65536 (2 ^ 32 - 1))
-    ∷ shown (valuesOf ((2 ^ 32 - 1) ∷ []) zeros [] 1 0)
     ∷ shown (valuesOf (replicate 125 0 ++ 7 ∷ 8 ∷ []) (set (set zeros 0 6) 63 6) (1 ∷ 11 ∷ 2 ∷ 12 ∷ 3 ∷ 13 ∷ 4 ∷ 14 ∷ 5 ∷ 15 ∷ 6 ∷ 16 ∷ 7 ∷ 17 ∷ 8 ∷ 18 ∷ []) 9 10)
-    ∷ shown (valuesOf (1 ∷ []) (set zeros 511 2) [] 1 0)
     ∷ []
 
 pub jobs-right : jobs
@@ -41,16 +41,12 @@ pub jobs-right : jobs
     ∷ (0 ∷ 1 ∷ 1 ∷ 3 ∷ 2 ∷ 2 ∷ 3 ∷ 65536 ∷ 4 ∷ 4294967295 ∷ 5 ∷ 1 ∷ 6 ∷ 3 ∷ 13 ∷ 2 ∷ 14 ∷ 18446744073709551615 ∷ 21 ∷ 4 ∷ 63 ∷ 4684596833555580929
     ∷ 64 ∷ 34359738375 ∷ 65 ∷ 9 ∷ 127 ∷ 6917529036231016451
     ∷ 129 ∷ 5 ∷ 131 ∷ 18446744073709551615 ∷ 191 ∷ 1729382256910270465 ∷ [])
-    ∷ (0 ∷ 1 ∷ 1 ∷ 1 ∷ 3 ∷ 1 ∷ 63 ∷ 16717361816799281152 ∷ 64 ∷ 4294967295 ∷ 127 ∷ 4611686019501129728 ∷ [])
     ∷ (0 ∷ 1 ∷ 1 ∷ 127 ∷ 2 ∷ 8 ∷ 3 ∷ 9 ∷ 4 ∷ 10 ∷ 5 ∷ 1 ∷ 6 ∷ 2 ∷ 7 ∷ 3 ∷ 8 ∷ 4 ∷ 9 ∷ 5 ∷ 10 ∷ 6 ∷ 11 ∷ 7 ∷ 12 ∷ 8 ∷ 13 ∷ 11 ∷ 14 ∷ 12 ∷ 15 ∷ 13 ∷ 16 ∷ 14
     ∷ 17 ∷ 15 ∷ 18 ∷ 16 ∷ 19 ∷ 17 ∷ 20 ∷ 18 ∷ 21 ∷ 64 ∷ 63 ∷ 10955058870136864785
     ∷ 126 ∷ 30064771072 ∷ 127 ∷ 9223372066919546880 ∷ 128 ∷ 8 ∷ 191 ∷ 9223372036854775810
     ∷ 192 ∷ 6 ∷ 255 ∷ 2 ∷ 256 ∷ 6 ∷ 319 ∷ 2 ∷ [])
-    ∷ (0 ∷ 1 ∷ 1 ∷ 1 ∷ 3 ∷ 1 ∷ 21 ∷ 512 ∷ 63 ∷ 16718487716706123776 ∷ 64 ∷ 1 ∷ 127 ∷ 13835058055282163712
-    ∷ 191 ∷ 2 ^ 63 ∷ 255 ∷ 2 ^ 63 ∷ 319 ∷ 2 ^ 63 ∷ 383 ∷ 2 ^ 63 ∷ 447 ∷ 2 ^ 63 ∷ 511 ∷ 2 ^ 63 ∷ 575 ∷ 2 ^ 63 ∷ 639 ∷ 2 ^ 63
-    ∷ 647 ∷ 2 ∷ 703 ∷ 9295429630892703744 ∷ [])
     ∷ []
-unfolding jobs shown shownAt zeros code jobForm headerWords codePairs partBlocks givenOf boxOf block bytesOf numberOf checkFrom from flatMap
+unfolding jobs shown shownAt zeros code jobForm headerWords storedInputs codePairs partBlocks givenOf boxOf block bytesOf numberOf checkFrom from flatMap
 jobs-right = refl
 
 -- the longest job is 19 blocks
@@ -70,18 +66,6 @@ box = 0 ∷ 255 ∷ []
 unfoldable pub answers : List (List ℕ)
 answers =
     answer 8 box 100 512 0 1024
-    ∷ answer 8 box 100 512 0 1025
-    ∷ answer 0 box 100 512 0 1024
-    ∷ answer 1025 box 100 512 0 1024
-    ∷ answer 8 (replicate 18 0) 100 512 0 1024
-    ∷ answer 8 (0 ∷ 1 ∷ 2 ∷ []) 100 512 0 1024
-    ∷ answer 8 (0 ∷ 1 ∷ 6 ∷ 5 ∷ []) 100 512 0 1024
-    ∷ answer 8 box 0 512 0 1024
-    ∷ answer 8 box 65537 512 0 1024
-    ∷ answer 8 box 100 511 0 1024
-    ∷ answer 8 box 100 513 0 1024
-    ∷ answer 8 box 100 512 (2 ^ 32) 1024
-    ∷ answer 8 box 100 512 0 1023
     -- two noes, of two questions that follow one another
     ∷ answer 0 (replicate 18 0) 100 512 0 1024
     ∷ answer 8 (6 ∷ 5 ∷ 0 ∷ []) 100 512 0 1024
@@ -89,11 +73,11 @@ answers =
     ∷ answer 8 box 0 511 0 1024
     ∷ answer 8 box 100 511 (2 ^ 32) 1024
     ∷ answer 8 box 100 512 (2 ^ 32) 1023
+    -- the last question alone
+    ∷ answer 8 box 100 512 0 1023
     ∷ []
 
 pub answers-right : answers
-    ≡ (0 ∷ 1024 ∷ []) ∷ (0 ∷ 1024 ∷ []) ∷ (1 ∷ 0 ∷ []) ∷ (1 ∷ 0 ∷ []) ∷ (2 ∷ 0 ∷ []) ∷ (2 ∷ 0 ∷ []) ∷ (3 ∷ 0 ∷ []) ∷ (4 ∷ 0 ∷ []) ∷ (4 ∷ 0 ∷ [])
-    ∷ (6 ∷ 0 ∷ []) ∷ (6 ∷ 0 ∷ []) ∷ (8 ∷ 0 ∷ []) ∷ (14 ∷ 0 ∷ [])
-    ∷ (1 ∷ 0 ∷ []) ∷ (2 ∷ 0 ∷ []) ∷ (3 ∷ 0 ∷ []) ∷ (4 ∷ 0 ∷ []) ∷ (6 ∷ 0 ∷ []) ∷ (8 ∷ 0 ∷ []) ∷ []
-unfolding answers answer box jobWritten jobWrittenBy writeAsks firstNo asks boxOf inOrder givenOf
+    ≡ (0 ∷ 1024 ∷ []) ∷ (1 ∷ 0 ∷ []) ∷ (2 ∷ 0 ∷ []) ∷ (3 ∷ 0 ∷ []) ∷ (4 ∷ 0 ∷ []) ∷ (6 ∷ 0 ∷ []) ∷ (8 ∷ 0 ∷ []) ∷ (14 ∷ 0 ∷ []) ∷ []
+unfolding answers answer box jobWritten doneBy first valueQuestions boxOf inOrder givenOf
 answers-right = refl

@@ -6,14 +6,18 @@ use Prim.Native.Nat.{ℕ, zero, suc, _*_, _/_, _^_}
 use native.Mathlib.Omega.{arith}
 use lib.ListN.{length, take, drop}
 use Rattle.boxes.specs.Boxes.{from}
+use Rattle.listing.proofs.First.{passes, none-applies}
 use Rattle.blocks.specs.Block.{wordBytes, payloadWords, bytesOf, check, payload, block}
 use Rattle.calls.specs.Call.{Below}
+use Rattle.calls.specs.declared.Refusal.the-variants.{Code, Inputs, Order, Limit, Memory, First}
+use Rattle.calls.proofs.Asked.{yes-on}
 use Rattle.jobs.specs.Header as header
 use Rattle.jobs.specs.Job.{JobRead, jobRead, blocksFor}
-use Rattle.jobs.proofs.Accepted.{code-length, intervals-length, memory-length, header-asked}
+use Rattle.jobs.proofs.Accepted.{code-length, intervals-length, memory-length, values-asked}
 use Rattle.jobs.proofs.Asked.{yes-sized}
 use Rattle.jobs.proofs.Typed.{word-below, code-typed, intervals-typed, memory-typed}
 use Rattle.writing.specs.Form.{headerWords, codePairs, givenWords, partBlock, partBlocks, jobForm}
+use Rattle.writing.specs.Write.{valueQuestions}
 use Rattle.writing.specs.Written.{TypedValues, Passes, ReadBack, AcceptedJob, OneForm}
 use Rattle.writing.proofs.Promises.{passes-written}
 use Rattle.writing.proofs.Read.{form-length, form-read, form-most, form-accepted}
@@ -55,7 +59,18 @@ form-bytes j =
 -- what is read can be written
 module _ (bytes : List ℕ) (job : AcceptedJob bytes) where
   read-passes : Passes (jobRead bytes)
-  read-passes = header-asked bytes [] 0 (job .accepted)
+  unfolding valueQuestions jobRead
+  read-passes =
+      let v = values-asked bytes [] 0 (job .accepted) in
+      none-applies (valueQuestions (jobRead bytes)) .0
+      (sym
+      (passes
+      ∙ yes-on First [] (v .first)
+      ∙ yes-on Memory _ (v .memory)
+      ∙ yes-on Limit _ (v .limit)
+      ∙ yes-on Order _ (v .order)
+      ∙ yes-on Inputs _ (v .intervals)
+      ∙ yes-on Code _ (v .code)))
 
   read-typed : TypedValues (jobRead bytes)
   unfolding jobRead

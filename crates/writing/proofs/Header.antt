@@ -7,8 +7,7 @@ use native.Mathlib.Omega.{arith}
 use borrow.Author.Tests.{eqb-true, eqb-false}
 use lib.Dec.{eqb}
 use lib.ListN.{length, getD, replicate, length-set, length-replicate, length-map}
-use lib.Seq.{sets, length-sets}
-use Rattle.boxes.specs.Boxes.{Interval, Box, lows, highs}
+use Rattle.boxes.specs.Boxes.{Box, lows, highs}
 use Rattle.boxes.proofs.Lists.{by-test}
 use Rattle.blocks.specs.Block.{payloadWords, wordAt, block}
 use Rattle.blocks.specs.Record.{mostInputs}
@@ -16,24 +15,24 @@ use Rattle.blocks.proofs.Bytes.{getD-padded, block-length, word-left}
 use Rattle.blocks.proofs.Reading.{Words, block-word}
 use Rattle.blocks.proofs.Rows.{withEnds, ends-put, low-at, high-at, back-at}
 use Rattle.calls.specs.Call.{boxOf}
-use Rattle.calls.proofs.Pairs.{pairs-length, pairs, sides-below}
+use Rattle.calls.proofs.Pairs.{pairs}
 use Rattle.jobs.specs.Header as header
 use Rattle.jobs.specs.Job.{JobRead, mark, codeCount, inputCount, stepLimit, firstPath, lowOf, highOf, givenCount, intervalAt, intervalsIn}
 use Rattle.jobs.proofs.Copied.{copied-is}
 use Rattle.jobs.proofs.Typed.{zeros-typed}
-use Rattle.writing.specs.Form.{givenOf, headerWords}
+use Rattle.writing.specs.Form.{givenOf, inputsOf, headerWords}
 use Rattle.writing.specs.Written.{TypedValues}
-use Rattle.writing.proofs.Ends.{low-end, high-end}
 use Rattle.writing.proofs.Given.{given-few}
-use Rattle.writing.proofs.Stores.{sets-before, append-below, sets-below}
+use Rattle.writing.proofs.Inputs.{inputs-length, inputs-before, inputs-below, inputs-rows, low-end, high-end}
+use Rattle.writing.proofs.Stores.{append-below}
 
 pub header-length : (j : JobRead) → length (headerWords j) ≡ payloadWords
 unfolding headerWords
-header-length j = simp (length-sets, length-set, length-replicate)
+header-length j = inputs-length (inputsOf j) (boxOf (j .intervals)) 0 _ ∙ simp (length-set, length-replicate)
 
 -- the words in front of the lows, and those behind the highs
 abbrev front : JobRead → List ℕ
-front j = header.markWord ∷ length (j .code) ∷ length (boxOf (j .intervals)) ∷ j .limit ∷ j .first ∷ []
+front j = header.markWord ∷ length (j .code) ∷ inputsOf j ∷ j .limit ∷ j .first ∷ []
 
 abbrev back : JobRead → List ℕ
 back j = givenOf (j .memory) ∷ replicate (payloadWords - header.rest) 0
@@ -48,7 +47,7 @@ module _ (j : JobRead) where
 
   front-at : (k : ℕ) → k < header.lows → getD (headerWords j) k 0 ≡ getD unmixed k 0
   unfolding headerWords
-  front-at k l = sets-before (highs box) _ header.highs k (omega arith) ∙ sets-before (lows box) unmixed header.lows k l
+  front-at k l = inputs-before (inputsOf j) box 0 unmixed k l
 
   module _ (few : length box ≤ mostInputs) where
     few-lows : length (lows box) ≤ mostInputs
@@ -59,7 +58,8 @@ module _ (j : JobRead) where
 
     words-are : headerWords j ≡ withEnds (front j) (lows box) (highs box) (back j) refl few-lows few-highs
     unfolding headerWords
-    words-are = ends-put (front j) (lows box) (highs box) (back j) refl few-lows few-highs
+    words-are =
+        inputs-rows (inputsOf j) box 0 unmixed (omega arith) ∙ ends-put (front j) (lows box) (highs box) (back j) refl few-lows few-highs
 
     low-word : (i : ℕ) → i < mostInputs → getD (headerWords j) (header.lows + i) 0 ≡ getD (lows box) i 0
     low-word i l = rw words-are (low-at (front j) (lows box) (highs box) (back j) refl few-lows few-highs i l)
@@ -75,7 +75,7 @@ module _ (j : JobRead) where
     front-words : Words (front j)
     front-words zero = omega arith
     front-words (suc zero) = typed .code-count
-    front-words (suc (suc zero)) = omega (arith, typed .interval-count, pairs-length (j .intervals))
+    front-words (suc (suc zero)) = omega (arith, typed .interval-count)
     front-words (suc (suc (suc zero))) = typed .limit
     front-words (suc (suc (suc (suc zero)))) = typed .first
     front-words (suc (suc (suc (suc (suc k))))) = omega arith
@@ -90,17 +90,9 @@ module _ (j : JobRead) where
         (append-below (2 ^ 64) (replicate mostInputs 0) (replicate mostInputs 0 ++ back j) (zeros-typed mostInputs)
         (append-below (2 ^ 64) (replicate mostInputs 0) (back j) (zeros-typed mostInputs) back-words))
 
-    low-words : Words (lows box)
-    low-words = sides-below (2 ^ 64) (λ (i : Interval). i .low) (λ l h a b. a) (omega arith) (j .intervals) (typed .intervals)
-
-    high-words : Words (highs box)
-    high-words = sides-below (2 ^ 64) (λ (i : Interval). i .high) (λ l h a b. b) (omega arith) (j .intervals) (typed .intervals)
-
     pub header-words : Words (headerWords j)
     unfolding headerWords
-    header-words =
-        sets-below (2 ^ 64) (highs box) (sets unmixed header.lows (lows box)) header.highs high-words
-        (sets-below (2 ^ 64) (lows box) unmixed header.lows low-words unmixed-words)
+    header-words = inputs-below (inputsOf j) (j .intervals) 0 unmixed (typed .intervals) unmixed-words
 
 -- in front of any bytes
 module _ (j : JobRead) (words : Words (headerWords j)) (rest : List ℕ) where
@@ -118,7 +110,7 @@ module _ (j : JobRead) (words : Words (headerWords j)) (rest : List ℕ) where
   pub code-read : codeCount bytes ≡ length (j .code)
   code-read = header-at header.code (omega arith) ∙ front-at j header.code (omega arith)
 
-  pub inputs-read : inputCount bytes ≡ length (boxOf (j .intervals))
+  pub inputs-read : inputCount bytes ≡ inputsOf j
   inputs-read = header-at header.inputs (omega arith) ∙ front-at j header.inputs (omega arith)
 
   pub limit-read : stepLimit bytes ≡ j .limit
@@ -167,5 +159,5 @@ module _ (j : JobRead) (words : Words (headerWords j)) (rest : List ℕ) where
     pub intervals-read : intervalsIn bytes ≡ j .intervals
     unfolding intervalsIn
     intervals-read =
-        let n : 2 * inputCount bytes ≡ length (j .intervals) = ap (λ (x : ℕ). 2 * x) inputs-read ∙ pairs (j .intervals) even in
+        let n : 2 * inputCount bytes ≡ length (j .intervals) = omega (arith, inputs-read) in
         copied-is (intervalAt bytes) (2 * inputCount bytes) (j .intervals) n (λ k l. interval-read k (omega arith))

@@ -1,7 +1,7 @@
 -- The laws of the writer, from the bottom up.
 --     Given       the memory words given
---     Stores      lists of numbers below a bound; stores
---     Ends        the lows and the highs of intervals
+--     Stores      lists of numbers below a bound
+--     Inputs      the words of the inputs, stored at their places
 --     Halves      the code, two words to a payload word
 --     Parts       the blocks of a part
 --     Header      the words of a header, as the reader finds them
@@ -15,7 +15,7 @@
 --     Examples    jobs and refusals, computed
 pub mod Given
 pub mod Stores
-pub mod Ends
+pub mod Inputs
 pub mod Halves
 pub mod Parts
 pub mod Header

@@ -1,42 +1,28 @@
 -- How a job comes to be written, part by part.
 -- Assumes nothing.
 use mathlib.Core.Path.{_≡_, sym, ap, _∙_}
-use mathlib.Core.List.{List, _∷_, _++_, append-assoc}
+use mathlib.Core.List.{List, _++_, append-assoc}
 use mathlib.Core.Option.{none}
-use Prim.Native.Nat.{ℕ, _+_, _-_, _*_, _/_, _≤_}
+use Prim.Native.Nat.{ℕ, _+_, _*_, _≤_}
 use native.Mathlib.Nat.{zero-add}
 use native.Mathlib.Omega.{arith}
-use lib.ListN.{length, take, drop, replicate, length-append}
-use lib.Seq.{sets, take-at, take-length}
-use Rattle.blocks.specs.Block.{blockBytes, payloadWords, block}
-use Rattle.blocks.specs.Record.{mostInputs}
-use Rattle.blocks.specs.Writing.{put}
+use lib.ListN.{length, take, drop, length-append}
+use lib.Seq.{take-at, take-length}
+use Rattle.listing.proofs.First.{none-applies}
+use Rattle.blocks.specs.Block.{blockBytes, block}
+use Rattle.blocks.specs.Working.Writing.{put}
 use Rattle.blocks.proofs.Bytes.{block-length}
 use Rattle.blocks.proofs.Puts.{put-put}
-use Rattle.calls.proofs.Asked.{all-yes}
-use Rattle.calls.proofs.Pairs.{pairs-length}
-use Rattle.jobs.specs.Header as header
-use Rattle.jobs.specs.Job.{JobRead, codePayload, blocksFor, firstCode, headerQuestions}
-use Rattle.writing.specs.Form.{givenOf, headerWords, codePairs, givenWords, partBlocks, jobForm, formLength}
-use Rattle.writing.specs.Write.{valuesOf, valueAsks}
-use Rattle.writing.specs.Writing.{endsOf, valuesRefusal, Room}
+use Rattle.jobs.specs.Job.{JobRead, codePayload, blocksFor, firstCode}
+use Rattle.writing.specs.Form.{givenOf, inputsOf, headerWords, codePairs, givenWords, partBlocks, jobForm, formLength}
+use Rattle.writing.specs.Write.{valuesOf, valueQuestions}
+use Rattle.writing.specs.Working.Writing.{valuesRefusal, Room}
 use Rattle.writing.specs.Written.{Passes}
-use Rattle.writing.proofs.Ends.{lows-are, highs-are}
 use Rattle.writing.proofs.Given.{given-few, given-length, given-again}
 use Rattle.writing.proofs.Halves.{pairs-count}
 use Rattle.writing.proofs.Header.{header-length}
 use Rattle.writing.proofs.Parts.{part-length}
 use Rattle.writing.proofs.Read.{form-length, code-size, pairs-size, memory-size}
-
--- the header's words, as they are stored
-pub header-made : (code given v : List ℕ) (limit first : ℕ) {a : List ℕ} → givenOf given ≡ length given
-    → a ≡ sets (
-    header.markWord ∷ length code ∷ length v / 2 ∷ limit ∷ first
-    ∷ (replicate mostInputs 0 ++ (replicate mostInputs 0 ++ (length given ∷ replicate (payloadWords - header.rest) 0)))
-    ) header.lows (endsOf 0 v)
-    → sets a header.highs (endsOf 1 v) ≡ headerWords (valuesOf code given v limit first)
-unfolding headerWords
-header-made code given v limit first last e = rw (e, lows-are v, highs-are v, pairs-length v, last)
 
 -- of the words given all are given
 pub given-all : (given : List ℕ) → givenOf given ≡ length given → givenWords given ≡ given
@@ -55,21 +41,21 @@ module _ (j : JobRead) (l : List ℕ) (room : formLength j ≤ length l) where
   abbrev code-part : List ℕ
   code-part = partBlocks (codePairs (j .code))
 
-  pub job-put : {words pairs given a b c : List ℕ} {n : ℕ} → n ≡ blocksFor (codePayload (length (j .code)))
+  pub job-put : {words pairs given a b c : List ℕ} {at n : ℕ} → at ≡ firstCode (inputsOf j) → n ≡ blocksFor (codePayload (length (j .code)))
       → words ≡ headerWords j → a ≡ put l 0 (block words)
-      → pairs ≡ codePairs (j .code) → b ≡ put a (blockBytes * firstCode) (partBlocks pairs)
-      → given ≡ givenWords (j .memory) → c ≡ put b (blockBytes * (firstCode + n)) (partBlocks given)
+      → pairs ≡ codePairs (j .code) → b ≡ put a (blockBytes * at) (partBlocks pairs)
+      → given ≡ givenWords (j .memory) → c ≡ put b (blockBytes * (at + n)) (partBlocks given)
       → c ≡ put l 0 (jobForm j)
   unfolding jobForm
-  job-put {b = b} {n = n} count words first pairs second given third =
+  job-put {b = b} {at = at} {n = n} begin count words first pairs second given third =
       let head = block (headerWords j) in
       let rest = partBlocks (givenWords (j .memory)) in
       let size : length head ≡ blockBytes = block-length (headerWords j) (omega (arith, header-length j)) in
       let code-size : length code-part ≡ blockBytes * n =
       part-length (codePairs (j .code)) ∙ ap (λ (x : ℕ). blockBytes * blocksFor x) (pairs-count (j .code)) ∙ ap (λ (x : ℕ). blockBytes * x) (sym count) in
-      let both : length (head ++ code-part) ≡ blockBytes * (firstCode + n) = omega (arith, length-append head code-part) in
-      let at-code : blockBytes * firstCode ≡ 0 + length head = omega arith in
-      let at-rest : blockBytes * (firstCode + n) ≡ 0 + length (head ++ code-part) = omega arith in
+      let both : length (head ++ code-part) ≡ blockBytes * (at + n) = omega (arith, length-append head code-part) in
+      let at-code : blockBytes * at ≡ 0 + length head = omega arith in
+      let at-rest : blockBytes * (at + n) ≡ 0 + length (head ++ code-part) = omega arith in
       let two : b ≡ put l 0 (head ++ code-part) = second ∙ rw (first, words, pairs, at-code) (put-put l 0 head (omega arith) code-part) in
       third ∙ rw (two, given, at-rest) (put-put l 0 (head ++ code-part) (omega arith) rest ∙ ap (put l 0) (append-assoc head code-part rest))
 
@@ -96,13 +82,12 @@ module _ (code memory v : List ℕ) (limit first : ℕ) where
 -- values that no question refuses, in a space that is long enough
 module _ (j : JobRead) (e : valuesRefusal j ≡ none) where
   pub passed-values : Passes j
-  passed-values = all-yes (valueAsks j) headerQuestions .0 e
+  passed-values = none-applies (valueQuestions j) .0 e
 
   pub has-room : (space : List ℕ) → formLength j ≤ length space → Room (j .code) (givenWords (j .memory)) (j .intervals) space
   has-room space room =
       record {
         few-words = code-size j passed-values .1;
-        pairs = pairs-size j passed-values .0;
         few-inputs = pairs-size j passed-values .1;
         few-given = omega (arith, given-length (j .memory), given-few (j .memory), memory-size j passed-values);
         last = given-again (j .memory) ∙ sym (given-length (j .memory));

@@ -9,7 +9,7 @@ use lib.ListN.{length, getD, take, drop, length-append, length-take, length-drop
 use lib.Seq.{take-all, getD-take, getD-drop}
 use Rattle.boxes.specs.Boxes.{from}
 use Rattle.blocks.specs.Block.{blockWords, blockBytes, payloadWords, wordAt, checksAgree}
-use Rattle.blocks.specs.Writing.{put}
+use Rattle.blocks.specs.Working.Writing.{put}
 use Rattle.blocks.proofs.Bytes.{block-length, word-left, word-right}
 use Rattle.blocks.proofs.Checks.{checks-block}
 use Rattle.blocks.proofs.Puts.{put-none, put-put}

@@ -3,30 +3,32 @@
 use mathlib.Core.Path.{_≡_, refl, sym, ap, _∙_}
 use mathlib.Core.Bool.{true}
 use mathlib.Core.Option.{none}
-use mathlib.Core.List.{List, [], _∷_, _++_, append-nil, append-assoc, map, List·Memᴰ·head as here, List·Memᴰ·tail as there}
+use mathlib.Core.List.{List, [], _++_, append-nil, append-assoc, map, List·Memᴰ·head as here, List·Memᴰ·tail as there}
 use Prim.Native.Nat.{ℕ, _+_, _-_, _*_, _/_, _%_, _^_, _≤_, _<_}
 use native.Mathlib.Omega.{arith}
-use borrow.Author.Tests.{leb-true, eqb-true, eq-eqb, le-leb}
+use borrow.Author.Tests.{leb-true, eqb-true, eq-eqb, le-leb, not-false}
 use lib.Dec.{leb, eqb}
 use lib.ListN.{length, getD, length-append, length-map, List·getD-eq-default}
 use Rattle.boxes.specs.Boxes.{from, lows, highs}
 use Rattle.riscu.specs.Limits.{codeWords, memoryWords}
+use Rattle.listing.specs.First.{first}
+use Rattle.listing.proofs.First.{passes, none-applies, first-goes}
 use Rattle.blocks.specs.Block.{blockWords, blockBytes, payloadWords, wordAt, block, blockCount, each, checksAgree}
 use Rattle.blocks.specs.Record.{mostInputs}
 use Rattle.blocks.proofs.Bytes.{block-length}
 use Rattle.blocks.proofs.Checks.{checks-block}
 use Rattle.blocks.proofs.Each.{each-all}
 use Rattle.blocks.proofs.Reading.{Words}
-use Rattle.calls.specs.Call.{boxOf, asks, firstNo}
-use Rattle.calls.specs.declared.Refusal.the-variants.{Code, Inputs, Memory}
-use Rattle.calls.proofs.Asked.{yes-on, passes, all-yes, first-goes, under-yes}
+use Rattle.calls.specs.Call.{boxOf}
+use Rattle.calls.specs.declared.Refusal.the-variants.{Blocks, Check, Form}
+use Rattle.calls.proofs.Asked.{yes-on}
+use Rattle.calls.proofs.Pairs.{pairs-length}
 use Rattle.jobs.specs.Header as header
-use Rattle.jobs.specs.Job.{JobRead, codeCount, inputCount, givenCount, firstCode, firstMemory, codePayload, blocksFor, blocksNeeded, payloadAt, codeAt, memoryAt, codeIn, memoryIn, jobRead, half, mostBlocks, zeroWord, zeroHalf, zeroWords, zeroHalves, unusedZero, wellFormed, wholeBlocks, headerAsks, jobAsks, headerQuestions, jobRefusalOf}
-use Rattle.jobs.specs.declared.JobRefusal.the-variants.{Blocks, Check, Call, Form}
+use Rattle.jobs.specs.Job.{JobRead, codeCount, inputCount, givenCount, firstCode, firstMemory, codePayload, blocksFor, blocksNeeded, payloadAt, codeAt, memoryAt, codeIn, memoryIn, jobRead, half, mostBlocks, zeroWord, zeroHalf, zeroWords, zeroHalves, unusedZero, wellFormed, wholeBlocks, headerQuestions, jobQuestions, jobRefusalOf}
 use Rattle.jobs.proofs.Asked.{both}
 use Rattle.jobs.proofs.Copied.{copied-is}
-use Rattle.writing.specs.Form.{givenOf, headerWords, codePairs, givenWords, partBlocks, jobForm, formLength}
-use Rattle.writing.specs.Write.{valueAsks}
+use Rattle.writing.specs.Form.{givenOf, inputsOf, headerWords, codePairs, givenWords, partBlocks, jobForm, formLength}
+use Rattle.writing.specs.Write.{valueQuestions}
 use Rattle.writing.specs.Written.{TypedValues, Passes}
 use Rattle.writing.proofs.Alike.{all-alike}
 use Rattle.writing.proofs.Halves.{pairs-count, pairs-words, half-at}
@@ -57,22 +59,23 @@ header-payload bytes i l = let e : (0 + i / payloadWords) * blockWords + i % pay
 -- what the questions say of the values
 module _ (j : JobRead) (passed : Passes j) where
   pub code-size : (1 ≤ length (j .code)) × (length (j .code) ≤ codeWords)
-  unfolding asks
+  unfolding valueQuestions
   code-size =
-      let (a, b) = both (leb 1 (length (j .code))) _ (passed Code (here refl)) in
+      let (a, b) = both (leb 1 (length (j .code))) _ (not-false _ (passed _ (here refl))) in
       (leb-true 1 (length (j .code)) a, leb-true (length (j .code)) codeWords b)
 
   pub pairs-size : (length (j .intervals) % 2 ≡ 0) × (length (j .intervals) ≤ 2 * mostInputs)
-  unfolding asks
+  unfolding valueQuestions
   pairs-size =
-      let (a, b) = both (eqb (length (j .intervals) % 2) 0) _ (passed Inputs (there (here refl))) in
-      (eqb-true (length (j .intervals) % 2) 0 a, leb-true (length (j .intervals)) (2 * mostInputs) b)
+      let (a, b) = both (eqb (length (j .intervals) % 2) 0) _ (not-false _ (passed _ (there (here refl)))) in
+      let even : length (j .intervals) % 2 ≡ 0 = eqb-true (length (j .intervals) % 2) 0 a in
+      (even, omega (arith, leb-true (length (j .intervals) / 2) mostInputs b))
 
   pub memory-size : length (j .memory) ≡ memoryWords
-  unfolding asks
-  memory-size = eqb-true (length (j .memory)) memoryWords (passed Memory (there (there (there (there (here refl))))))
+  unfolding valueQuestions
+  memory-size = eqb-true (length (j .memory)) memoryWords (not-false _ (passed _ (there (there (there (there (here refl)))))))
 
-  few-blocks : blocksNeeded (length (j .code)) (givenOf (j .memory)) ≤ mostBlocks
+  few-blocks : blocksNeeded (inputsOf j) (length (j .code)) (givenOf (j .memory)) ≤ mostBlocks
   few-blocks = omega (arith, code-size .1, given-few (j .memory), memory-size)
 
   pub form-most : formLength j ≤ mostBlocks * blockBytes
@@ -119,7 +122,7 @@ module _ (j : JobRead) (typed : TypedValues j) (passed : Passes j) where
       let n = blocksFor (codePayload (length (j .code))) in
       let inside : k / 2 < payloadWords * n = omega arith in
       let room : k / 2 < payloadWords * blocksFor (length ws) = rw (pairs-count (j .code)) inside in
-      ap (half k) (payload-part ws (pairs-words (j .code) (typed .code)) head memory-part firstCode (k / 2) (omega (arith, head-length)) room)
+      ap (half k) (payload-part ws (pairs-words (j .code) (typed .code)) head memory-part (firstCode (inputCount bytes)) (k / 2) (omega (arith, head-length)) room)
       ∙ half-at (j .code) (typed .code) k
 
   code-in : codeIn bytes ≡ j .code
@@ -135,10 +138,10 @@ module _ (j : JobRead) (typed : TypedValues j) (passed : Passes j) where
       let ws = givenWords (j .memory) in
       let n = blocksFor (codePayload (length (j .code))) in
       let room : i < payloadWords * blocksFor (length ws) = rw (given-length (j .memory)) l in
-      let size : length (head ++ code-part) ≡ (firstCode + n) * blockBytes =
+      let size : length (head ++ code-part) ≡ (firstCode (inputCount bytes) + n) * blockBytes =
       omega (arith, length-append head code-part, head-length, part-length (codePairs (j .code)) ∙ ap (λ (x : ℕ). blockBytes * blocksFor x) (pairs-count (j .code))) in
       rw code-count
-      (rw (append-nil, append-assoc) at (payload-part ws given-words (head ++ code-part) [] (firstCode + n) i size room))
+      (rw (append-nil, append-assoc) at (payload-part ws given-words (head ++ code-part) [] (firstCode (inputCount bytes) + n) i size room))
 
   memory-in : memoryIn bytes ≡ j .memory
   unfolding memoryIn
@@ -185,8 +188,9 @@ module _ (j : JobRead) (typed : TypedValues j) (passed : Passes j) where
   all-unused =
       let n = inputCount bytes in
       let box = boxOf (j .intervals) in
-      let low-count : length (lows box) ≡ n = length-map box _ ∙ sym (inputs-read j words rest) in
-      let high-count : length (highs box) ≡ n = length-map box _ ∙ sym (inputs-read j words rest) in
+      let count : length box ≡ n = pairs-length (j .intervals) ∙ sym (inputs-read j words rest) in
+      let low-count : length (lows box) ≡ n = length-map box _ ∙ count in
+      let high-count : length (highs box) ≡ n = length-map box _ ∙ count in
       let halves = 2 * payloadWords * blocksFor (codePayload (codeCount bytes)) in
       let given = payloadWords * blocksFor (givenCount bytes) in
       rw (
@@ -201,13 +205,13 @@ module _ (j : JobRead) (typed : TypedValues j) (passed : Passes j) where
 
   -- The questions on the form.
 
-  blocks-count : blockCount bytes ≡ blocksNeeded (length (j .code)) (givenOf (j .memory))
+  blocks-count : blockCount bytes ≡ blocksNeeded (inputsOf j) (length (j .code)) (givenOf (j .memory))
   blocks-count = unfold jobForm in omega (arith, form-length j)
 
   whole-blocks : wholeBlocks bytes ≡ true
   unfolding wholeBlocks
   whole-blocks =
-      let n = blocksNeeded (length (j .code)) (givenOf (j .memory)) in
+      let n = blocksNeeded (inputsOf j) (length (j .code)) (givenOf (j .memory)) in
       let size : length bytes ≡ blockBytes * n = unfold jobForm in form-length j in
       let even : length bytes % blockBytes ≡ 0 = omega arith in
       rw (eq-eqb (length bytes % blockBytes) 0 even, blocks-count, le-leb 1 n (omega arith)) (le-leb n mostBlocks (few-blocks j passed))
@@ -228,12 +232,13 @@ module _ (j : JobRead) (typed : TypedValues j) (passed : Passes j) where
       rw (mark-read j words rest, code-count, given-count, eq-eqb _ _ blocks-count) all-unused
 
   pub form-accepted : jobRefusalOf (jobForm j) ≡ none
-  unfolding jobForm jobRefusalOf jobAsks
+  unfolding jobForm jobQuestions
   form-accepted =
-      let header : firstNo (headerAsks bytes) headerQuestions ≡ none =
-      all-alike j typed (pairs-size j passed .0) (memory-size j passed) rest ∙ all-yes (valueAsks j) headerQuestions .1 passed in
-      yes-on (jobAsks bytes) Blocks _ whole-blocks
-      ∙ yes-on (jobAsks bytes) Check _ checks
-      ∙ first-goes (jobAsks bytes) (map Call headerQuestions) (Form ∷ []) (under-yes Call (jobAsks bytes) headerQuestions header)
-      ∙ yes-on (jobAsks bytes) Form [] form
-      ∙ sym (passes (jobAsks bytes))
+      let header : first (headerQuestions bytes) ≡ none =
+      all-alike j typed (pairs-size j passed .0) (memory-size j passed) rest ∙ none-applies (valueQuestions j) .1 passed in
+      sym
+      (passes
+      ∙ yes-on Form [] form
+      ∙ sym (first-goes (headerQuestions bytes) _ header)
+      ∙ yes-on Check _ checks
+      ∙ yes-on Blocks _ whole-blocks)

@@ -1,40 +1,40 @@
 -- Values are refused exactly as the reader would refuse a header with these values.
 -- Assumes nothing.
-use mathlib.Core.Path.{_≡_, _∙_}
-use mathlib.Core.Logic.{_↔_, Iff·trans}
+use mathlib.Core.Path.{_≡_, sym, _∙_}
+use mathlib.Core.Logic.{Iff·trans}
 use mathlib.Core.Bool.{true}
-use mathlib.Core.List.{List, [], _∷_, _++_, append-nil, map}
-use mathlib.Core.Option.{some}
+use mathlib.Core.List.{List, [], _∷_, _++_, append-nil}
 use Prim.Native.Nat.{ℕ, _%_, _≤_}
 use native.Mathlib.Omega.{arith}
 use lib.ListN.{length}
 use Rattle.riscu.specs.Limits.{memoryWords}
+use Rattle.listing.specs.First.{first}
 use Rattle.blocks.specs.Block.{blockBytes, payloadWords, block, each, checksAgree}
 use Rattle.blocks.proofs.Bytes.{block-length}
 use Rattle.blocks.proofs.Checks.{checks-block}
-use Rattle.calls.specs.Call.{firstNo}
-use Rattle.calls.proofs.Asked.{yes-on, under-refused}
-use Rattle.jobs.specs.Job.{JobRead, wholeBlocks, headerAsks, jobAsks, headerQuestions, jobRefusalOf}
-use Rattle.jobs.specs.declared.JobRefusal.the-variants.{Blocks, Check, Call, Form}
+use Rattle.calls.specs.Questions.{_otherwise_}
+use Rattle.calls.specs.declared.Refusal.the-variants.{Blocks, Check, Form}
+use Rattle.calls.proofs.Asked.{yes-on}
+use Rattle.jobs.specs.Job.{JobRead, wholeBlocks, wellFormed, headerQuestions, jobQuestions, jobRefusalOf}
 use Rattle.writing.specs.Form.{headerWords}
 use Rattle.writing.specs.Write.{writeCallOf}
 use Rattle.writing.specs.Written.{TypedValues, Alike, RefusedAlike}
 use Rattle.writing.proofs.Alike.{all-alike}
 use Rattle.writing.proofs.Header.{header-length, header-words}
-use Rattle.writing.proofs.Promises.{refused-value}
+use Rattle.writing.proofs.Promises.{other-refusal, refused-value}
 
 -- the reader's first no on bytes that begin with a header is the writer's on its values
 refused-so : (j : JobRead) → TypedValues j → length (j .intervals) % 2 ≡ 0 → length (j .memory) ≡ memoryWords → (rest : List ℕ) →
     let bytes = block (headerWords j) ++ rest in
     wholeBlocks bytes ≡ true → checksAgree bytes ≡ true → Alike j bytes
-unfolding jobRefusalOf jobAsks
-refused-so j typed even memory rest whole checks r space =
+unfolding jobQuestions
+refused-so j typed even memory rest whole checks r form space-asked space =
     let bytes : List ℕ = block (headerWords j) ++ rest in
-    let asked : jobRefusalOf bytes ≡ firstNo (jobAsks bytes) (map Call headerQuestions ++ (Form ∷ [])) =
-    yes-on (jobAsks bytes) Blocks _ whole ∙ yes-on (jobAsks bytes) Check _ checks in
-    let header : (firstNo (jobAsks bytes) (map Call headerQuestions ++ (Form ∷ [])) ≡ some (Call r)) ↔ (firstNo (headerAsks bytes) headerQuestions ≡ some r) =
-    under-refused Call (jobAsks bytes) headerQuestions Form r (λ q e. cc) (λ e. let z : _≡_ {A = ℕ} 0 1 = cc in absurd (omega arith)) in
-    rw asked (Iff·trans header (rw (all-alike j typed even memory rest) (refused-value (writeCallOf j space) r)))
+    let asked : jobRefusalOf bytes ≡ first (headerQuestions bytes ++ ((wellFormed bytes otherwise Form) ∷ [])) =
+    sym (yes-on Check _ checks ∙ yes-on Blocks _ whole) in
+    rw asked
+    (Iff·trans (other-refusal (headerQuestions bytes) (wellFormed bytes otherwise Form) r form)
+    (rw (all-alike j typed even memory rest) (refused-value (writeCallOf j space) r space-asked)))
 
 -- the header alone is a whole block whose check agrees
 header-alone : (j : JobRead) → TypedValues j →

@@ -1,21 +1,18 @@
 -- Document 02, No. 8: the call that writes a job.
 use Prim.Native.Nat.{ℕ}
-use mathlib.Core.Bool.{Bool}
-use mathlib.Core.List.{List, [], _∷_, _++_, map}
-use mathlib.Core.Option.{Option, none, some}
+use mathlib.Core.List.{List, [], _∷_, _++_}
 use denote.Ref.{now}
-use lib.Dec.{leb}
 use lib.ListN.{length, drop}
 use Rattle.riscu.specs.Lent.{LentList}
-use Rattle.calls.specs.Border.{spaceNumber}
-use Rattle.calls.specs.Call.{number, asks, firstNo}
-use Rattle.calls.specs.declared.Refusal.{Refusal}
-use Rattle.jobs.specs.Job.{JobRead, callFor, headerQuestions}
+use Rattle.calls.specs.Questions.{Question, _otherwise_, codeFits, intervalsFit, inOrder, limitFits, memoryFits, firstFits, spaceFits}
+use Rattle.calls.specs.Call.{boxOf}
+use Rattle.calls.specs.Border.{refusedNumber}
+use Rattle.calls.specs.Done.{DoneLeft, Deed, doneTo, refusalFrom}
+use Rattle.calls.specs.declared.Refusal.the-variants.{Code, Inputs, Order, Limit, Memory, First, Space}
+use Rattle.calls.specs.declared.Completion.{Completion}
+use Rattle.calls.specs.declared.Completion.the-variants.{Refused, Done}
+use Rattle.jobs.specs.Job.{JobRead}
 use Rattle.writing.specs.Form.{jobForm, formLength}
-use Rattle.writing.specs.declared.WriteRefusal.{WriteRefusal}
-use Rattle.writing.specs.declared.WriteRefusal.the-variants.{Value, Space}
-use Rattle.writing.specs.declared.WriteAnswer.{WriteAnswer}
-use Rattle.writing.specs.declared.WriteAnswer.the-variants.{Refused, Written}
 use Rattle.writing.specs.declared.WriteOutcome.{WriteOutcome}
 
 -- what a call lends: what is to be read back, and the space to write
@@ -26,47 +23,42 @@ pub record WriteCall : Type 0 where
 abbrev pub writeCallOf : JobRead → List ℕ → WriteCall
 writeCallOf j space = record { values = j; space = space }
 
--- The questions, each under the refusal that answers its no.
+-- 1, 2, 3, 4, 6, 8 of the values, in the reader's order; a lent memory is exactly 512 words
+unfoldable pub valueQuestions : JobRead → List Question
+valueQuestions j =
+    (codeFits (length (j .code)) otherwise Code)
+    ∷ (intervalsFit (length (j .intervals)) otherwise Inputs)
+    ∷ (inOrder (boxOf (j .intervals)) otherwise Order)
+    ∷ (limitFits (j .limit) otherwise Limit)
+    ∷ (memoryFits (length (j .memory)) otherwise Memory)
+    ∷ (firstFits (j .first) otherwise First)
+    ∷ []
 
--- 1, 2, 3, 4, 6, 8 of the values, as a call asks them: memory is exactly 512 words. They ask nothing of a table or a report.
-abbrev pub valueAsks : JobRead → Refusal → Bool
-valueAsks j r = asks (j .memory) 0 (callFor j []) r
+-- and then 14: the lent space is not shorter than the job
+abbrev pub writeQuestions : WriteCall → List Question
+writeQuestions c = valueQuestions (c .values) ++ ((spaceFits (formLength (c .values)) (length (c .space)) otherwise Space) ∷ [])
 
--- 14: the lent space is not shorter than the job
-unfoldable pub writeAsks : WriteCall → WriteRefusal → Bool
-writeAsks c (Value r) = valueAsks (c .values) r
-writeAsks c Space = leb (formLength (c .values)) (length (c .space))
+-- the job at the start of the space; a longer space keeps its rest
+abbrev pub writeDeed : WriteCall → Deed
+writeDeed c =
+    record {
+      amount = formLength (c .values);
+      lent = c .space;
+      after = jobForm (c .values) ++ drop (formLength (c .values)) (c .space);
+    }
 
--- in the reader's order, and then the space
-abbrev pub writeQuestions : List WriteRefusal
-writeQuestions = map Value headerQuestions ++ (Space ∷ [])
-
-abbrev pub writeNumber : WriteRefusal → ℕ
-writeNumber (Value r) = number r
-writeNumber Space = spaceNumber
-
--- what a call answers, and what it leaves in the space
-pub record WriteLeft : Type 0 where
-  pub answer : WriteAnswer
-  pub space : List ℕ
-
-abbrev pub writeLeft : WriteAnswer → List ℕ → WriteLeft
-writeLeft answer space = record { answer = answer; space = space }
-
--- a refusal writes nothing; a longer space keeps its rest
-unfoldable pub jobWrittenBy : WriteCall → Option WriteRefusal → WriteLeft
-jobWrittenBy c (some r) = writeLeft (Refused r) (c .space)
-jobWrittenBy c none =
-    writeLeft (Written (formLength (c .values))) (jobForm (c .values) ++ drop (formLength (c .values)) (c .space))
-
--- the first no decides
-unfoldable pub jobWritten : WriteCall → WriteLeft
-jobWritten c = jobWrittenBy c (firstNo (writeAsks c) writeQuestions)
+-- the first no decides; a refusal writes nothing
+unfoldable pub jobWritten : WriteCall → DoneLeft
+jobWritten c = doneTo (writeQuestions c) (writeDeed c)
 
 -- the answer in numbers at the border: the refusal's or 0, and the bytes written
-abbrev pub writeOutcome : WriteAnswer → WriteOutcome
-writeOutcome (Refused r) = record { refused = writeNumber r; bytes = 0 }
-writeOutcome (Written n) = record { refused = 0; bytes = n }
+
+abbrev pub bytesWritten : Completion → ℕ
+bytesWritten (Refused r) = 0
+bytesWritten (Done n) = n
+
+abbrev pub writeOutcome : Completion → WriteOutcome
+writeOutcome a = record { refused = refusedNumber (refusalFrom a); bytes = bytesWritten a }
 
 -- the values that are lent, and what the call leaves, of the slices themselves
 
@@ -77,5 +69,5 @@ valuesOf code memory intervals limit first =
 abbrev pub valuesLent : LentList → LentList → LentList → ℕ → ℕ → JobRead
 valuesLent code memory intervals limit first = valuesOf (now (code .entry)) (now (memory .entry)) (now (intervals .entry)) limit first
 
-abbrev pub jobWrittenOn : JobRead → LentList → WriteLeft
+abbrev pub jobWrittenOn : JobRead → LentList → DoneLeft
 jobWrittenOn j space = jobWritten (writeCallOf j (now (space .entry)))

@@ -1,43 +1,38 @@
 -- What a call that writes a job promises, and what reader and writer are to each other.
 use mathlib.Core.Path.{_≡_}
-use mathlib.Core.Logic.{_↔_}
+use mathlib.Core.Logic.{_↔_, _≢_}
 use mathlib.Core.Bool.{true}
 use mathlib.Core.List.{List, _++_}
 use mathlib.Core.Option.{none, some}
 use Prim.Native.Nat.{ℕ, _*_, _%_, _^_, _≤_, _<_}
 use lib.ListN.{length, take, drop}
-use Rattle.boxes.specs.Boxes.{_∈_}
 use Rattle.riscu.specs.Limits.{memoryWords}
 use Rattle.blocks.specs.Block.{blockBytes, block, checksAgree}
+use Rattle.calls.specs.Questions.{AllYes}
 use Rattle.calls.specs.Call.{Below}
-use Rattle.calls.specs.Refuses.{FirstNo}
+use Rattle.calls.specs.Border.{SaysRefusal}
+use Rattle.calls.specs.Done.{DoneLeft, doneLeft, refusalFrom, Completes}
 use Rattle.calls.specs.declared.Refusal.{Refusal}
-use Rattle.jobs.specs.Job.{JobRead, jobRead, mostBlocks, wholeBlocks, headerQuestions, jobRefusalOf}
-use Rattle.jobs.specs.declared.JobRefusal.the-variants.{Call}
+use Rattle.calls.specs.declared.Refusal.the-variants.{Form, Space}
+use Rattle.calls.specs.declared.Completion.{Completion}
+use Rattle.calls.specs.declared.Completion.the-variants.{Refused, Done}
+use Rattle.jobs.specs.Job.{JobRead, jobRead, mostBlocks, wholeBlocks, jobRefusalOf}
 use Rattle.writing.specs.Form.{headerWords, jobForm, formLength}
-use Rattle.writing.specs.Write.{WriteCall, writeCallOf, WriteLeft, writeLeft, valueAsks, writeAsks, writeQuestions, writeNumber, jobWritten, writeOutcome}
-use Rattle.writing.specs.declared.WriteRefusal.{WriteRefusal}
-use Rattle.writing.specs.declared.WriteRefusal.the-variants.{Value}
-use Rattle.writing.specs.declared.WriteAnswer.{WriteAnswer}
-use Rattle.writing.specs.declared.WriteAnswer.the-variants.{Refused, Written}
+use Rattle.writing.specs.Write.{WriteCall, writeCallOf, valueQuestions, writeQuestions, writeDeed, jobWritten, bytesWritten}
+use Rattle.writing.specs.declared.WriteOutcome.{WriteOutcome}
 
 -- what a call leaves
-pub record WritesJob (c : WriteCall) (l : WriteLeft) : Type 0 where
-  -- the first no decides: a call is refused by a question exactly if that is the first no
-  pub refused : (r : WriteRefusal) → (l .answer ≡ Refused r) ↔ FirstNo (writeAsks c) writeQuestions r
-  -- and accepted exactly if every question has the answer yes; it answers the length that was known before
-  pub accepted : (l .answer ≡ Written (formLength (c .values))) ↔ ((q : WriteRefusal) → q ∈ writeQuestions → writeAsks c q ≡ true)
-  pub bytes : (n : ℕ) → l .answer ≡ Written n → n ≡ formLength (c .values)
-  -- a refusal writes nothing
-  pub kept : (r : WriteRefusal) → l .answer ≡ Refused r → l .space ≡ c .space
+pub record WritesJob (c : WriteCall) (l : DoneLeft) : Type 0 where
+  -- the first no decides; accepted, it answers the length that was known before; a refusal writes nothing
+  pub completes : Completes (writeQuestions c) (writeDeed c) l
   -- accepted, the job stands at the start of the space, and a longer space keeps its rest
-  pub job : (n : ℕ) → l .answer ≡ Written n → take n (l .space) ≡ jobForm (c .values)
-  pub rest : (n : ℕ) → l .answer ≡ Written n → drop n (l .space) ≡ drop n (c .space)
+  pub job : (n : ℕ) → l .answer ≡ Done n → take n (l .list) ≡ jobForm (c .values)
+  pub rest : (n : ℕ) → l .answer ≡ Done n → drop n (l .list) ≡ drop n (c .space)
 
 -- the numbers at the border say all of the answer
-pub record WriteInNumbers (a : WriteAnswer) : Type 0 where
-  pub accepted : (writeOutcome a .refused ≡ 0) ↔ (a ≡ Written (writeOutcome a .bytes))
-  pub refused : (r : WriteRefusal) → (writeOutcome a .refused ≡ writeNumber r) ↔ (a ≡ Refused r)
+pub record WriteInNumbers (o : WriteOutcome) (a : Completion) : Type 0 where
+  pub refusal : SaysRefusal (o .refused) (refusalFrom a)
+  pub bytes : o .bytes ≡ bytesWritten a
 
 -- what the types of the lent values say
 pub record TypedValues (j : JobRead) : Type 0 where
@@ -52,7 +47,7 @@ pub record TypedValues (j : JobRead) : Type 0 where
 
 -- values that no question refuses
 abbrev pub Passes : JobRead → Type 0
-Passes j = (r : Refusal) → r ∈ headerQuestions → valueAsks j r ≡ true
+Passes j = AllYes (valueQuestions j)
 
 -- The reader gets back the same values from what was written, which passes every question. The longest job is 19 blocks.
 pub record ReadBack (j : JobRead) : Type 0 where
@@ -61,9 +56,12 @@ pub record ReadBack (j : JobRead) : Type 0 where
   pub size : length (jobForm j) ≡ formLength j
   pub most : formLength j ≤ mostBlocks * blockBytes
 
--- a question of a call refuses these bytes in the reader exactly if it refuses these values in the writer, whatever space is lent
+-- The reader refuses these bytes exactly if the writer refuses these values so, whatever space is lent. The form is the reader's to
+-- ask, and the space the writer's.
 abbrev pub Alike : JobRead → List ℕ → Type 0
-Alike j bytes = (r : Refusal) (space : List ℕ) → (jobRefusalOf bytes ≡ some (Call r)) ↔ (jobWritten (writeCallOf j space) .answer ≡ Refused (Value r))
+Alike j bytes =
+    (r : Refusal) → r ≢ Form → r ≢ Space → (space : List ℕ)
+    → (jobRefusalOf bytes ≡ some r) ↔ (jobWritten (writeCallOf j space) .answer ≡ Refused r)
 
 -- Values are refused exactly as the reader would refuse a header with these values: the header alone, and whatever stands behind it, in
 -- whole blocks whose checks agree. A header has whole pairs and says how many of 512 words are given, so the values have these too.
@@ -96,7 +94,7 @@ pub record OneForm (bytes : List ℕ) : Type 0 where
   -- all that the reader accepts can be written, in a space that is long enough
   pub written-as : (space : List ℕ) → formLength (jobRead bytes) ≤ length space
       → jobWritten (writeCallOf (jobRead bytes) space)
-      ≡ writeLeft (Written (formLength (jobRead bytes))) (jobForm (jobRead bytes) ++ drop (formLength (jobRead bytes)) space)
+      ≡ doneLeft (Done (formLength (jobRead bytes))) (jobForm (jobRead bytes) ++ drop (formLength (jobRead bytes)) space)
   pub means : SameMeaning (jobForm (jobRead bytes)) bytes
   pub is-form : WritersForm (jobForm (jobRead bytes))
   pub only : (other : List ℕ) → SameMeaning other bytes → WritersForm other → other ≡ jobForm (jobRead bytes)

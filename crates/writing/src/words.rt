@@ -4,25 +4,23 @@ use calls::questions::CODE_WORDS;
 use jobs::header::CODE_COUNT;
 use jobs::header::FIRST_PATH;
 use jobs::header::GIVEN_COUNT;
-use jobs::header::HIGHS;
 use jobs::header::INPUT_COUNT;
-use jobs::header::LOWS;
 use jobs::header::MARK;
 use jobs::header::MARK_WORD;
 use jobs::header::STEP_LIMIT;
+use jobs::header::high_at;
+use jobs::header::low_at;
 use jobs::words::code_payload;
 ghost use mathlib.Core.Path.{_≡_};
-ghost use Prim.Native.Nat.{_+_, _-_, _*_, _^_, _/_, _%_, _≤_, _<_};
+ghost use Prim.Native.Nat.{_+_, _-_, _*_, _^_, _/_, _≤_, _<_};
 ghost use mathlib.Core.List.{_++_};
 ghost use lib.ListN.{length, getD, replicate};
-ghost use lib.Seq.{sets};
 ghost use Rattle.riscu.specs.Limits.{codeWords};
-ghost use Rattle.blocks.specs.Block.{payloadWords};
 ghost use Rattle.blocks.specs.Record.{mostInputs};
+ghost use Rattle.calls.specs.Call.{boxOf};
 ghost use Rattle.jobs.specs.Job.{codePayload};
-ghost use Rattle.writing.specs.Form.{givenOf, headerWords, codePair, codePairs};
+ghost use Rattle.writing.specs.Form.{givenOf, storedInputs, headerWords, codePair, codePairs};
 ghost use Rattle.writing.specs.Write.{valuesLent};
-ghost use Rattle.writing.specs.Writing.{endsOf};
 
 // Payload words of the longest code.
 pub(crate) const CODE_PAYLOAD: usize = (CODE_WORDS + 1) / 2;
@@ -41,21 +39,19 @@ pub(crate) fn given_count(memory: &[u64]) -> usize
     0
 }
 
-// The words with the lows (`end` is 0) or the highs (`end` is 1) of the intervals from `place` on.
-fn with_ends(
-    words: [u64; PAYLOAD_WORDS],
-    place: usize,
-    intervals: &[u64],
-    end: usize,
-) -> [u64; PAYLOAD_WORDS]
-    requires { ⌜ (place + length (now intervals) / 2 ≤ payloadWords) × (length (now intervals) % 2 ≡ 0) × (end < 2) ⌝ }
-    ensures { λ r. ⌜ r ≡ sets words place (endsOf end (now (intervals .entry))) ⌝ }
+// The words with the low and the high of each input at their places.
+fn with_inputs(words: [u64; PAYLOAD_WORDS], intervals: &[u64]) -> [u64; PAYLOAD_WORDS]
+    requires { ⌜ length (now intervals) ≤ 2 * mostInputs ⌝ }
+    ensures { λ r. ⌜ r ≡ storedInputs (length (now (intervals .entry)) / 2) 0 (boxOf (now (intervals .entry))) words ⌝ }
 {
     let n = intervals.len() / 2;
     let mut out = words;
     let mut i: usize = 0;
     while i < n {
-        out[place + i] = intervals[2 * i + end];
+        let low = low_at(n, i);
+        let high = high_at(n, i);
+        out[low] = intervals[2 * i];
+        out[high] = intervals[2 * i + 1];
         i += 1;
     }
     out
@@ -69,7 +65,7 @@ pub(crate) fn header_words(
     limit: u64,
     first: u64,
 ) -> [u64; PAYLOAD_WORDS]
-    requires { ⌜ (length (now intervals) % 2 ≡ 0) × (length (now intervals) ≤ 2 * mostInputs) × (givenOf (now given) ≡ length (now given)) ⌝ }
+    requires { ⌜ (length (now intervals) ≤ 2 * mostInputs) × (givenOf (now given) ≡ length (now given)) ⌝ }
     ensures { λ r. ⌜ r ≡ headerWords (valuesLent code given intervals limit first) ⌝ }
 {
     let mut words = [0u64; PAYLOAD_WORDS];
@@ -79,7 +75,7 @@ pub(crate) fn header_words(
     words[STEP_LIMIT] = limit;
     words[FIRST_PATH] = first;
     words[GIVEN_COUNT] = given.len() as u64;
-    with_ends(with_ends(words, LOWS, intervals, 0), HIGHS, intervals, 1)
+    with_inputs(words, intervals)
 }
 
 // The code word at a place, and 0 past the end.

@@ -1,31 +1,35 @@
 // The blocks of a job, and the call that writes them.
-use crate::WriteAnswer;
-use crate::WriteRefusal;
 use crate::words::code_pairs;
 use crate::words::given_count;
 use crate::words::header_words;
 use blocks::BLOCK_BYTES;
-use blocks::PATH_BYTES;
 use blocks::PAYLOAD_WORDS;
 use blocks::block::put_block;
+use calls::Completion;
 use calls::Questioned;
-use calls::questions::ENTRY_WORDS;
-use calls::questions::ask;
-use jobs::words::FIRST_CODE;
+use calls::Refusal;
+use calls::questions::code_fits;
+use calls::questions::first_fits;
+use calls::questions::in_order;
+use calls::questions::intervals_fit;
+use calls::questions::limit_fits;
+use calls::questions::memory_fits;
 use jobs::words::blocks_for;
 use jobs::words::blocks_needed;
 use jobs::words::code_payload;
+use jobs::words::first_code;
 ghost use mathlib.Core.Path.{_≡_};
 ghost use mathlib.Core.Option.{none};
 ghost use Prim.Native.Nat.{_+_, _*_, _≤_, _<_};
 ghost use lib.ListN.{length, take, drop};
 ghost use Rattle.blocks.specs.Block.{blockBytes, payloadWords, block};
-ghost use Rattle.blocks.specs.Writing.{put};
-ghost use Rattle.calls.specs.Border.{refusalIn};
+ghost use Rattle.blocks.specs.Working.Writing.{put};
+ghost use Rattle.calls.specs.Working.Asking.{refusalIn};
+ghost use Rattle.calls.specs.Done.{doneLeft};
 ghost use Rattle.jobs.specs.Job.{blocksFor};
 ghost use Rattle.writing.specs.Form.{partBlocks, jobForm};
-ghost use Rattle.writing.specs.Write.{valuesOf, valuesLent, writeLeft, jobWrittenOn};
-ghost use Rattle.writing.specs.Writing.{Room, valuesRefusal};
+ghost use Rattle.writing.specs.Write.{valuesOf, valuesLent, jobWrittenOn};
+ghost use Rattle.writing.specs.Working.Writing.{Room, valuesRefusal};
 
 // Writes the block of at most 63 words of a part, those from `first` on.
 fn put_words(job: &mut [u8], at: usize, words: &[u64], first: usize)
@@ -62,17 +66,34 @@ fn put_job(code: &[u32], given: &[u64], intervals: &[u64], limit: u64, first: u6
     put_block(job, 0, &header);
     let pairs = code_pairs(code);
     let n = code_payload(code.len());
-    put_blocks(job, BLOCK_BYTES * FIRST_CODE, &pairs[..n]);
-    put_blocks(job, BLOCK_BYTES * (FIRST_CODE + blocks_for(n)), given);
+    let at = first_code(intervals.len() / 2);
+    put_blocks(job, BLOCK_BYTES * at, &pairs[..n]);
+    put_blocks(job, BLOCK_BYTES * (at + blocks_for(n)), given);
 }
 
-// The first no of the questions on the values: a call's own, with a table and a report that pass.
+// The questions on the values, in their order.
 fn ask_values(code: &[u32], memory: &[u64], intervals: &[u64], limit: u64, first: u64) -> Questioned
     ensures { λ r. ⌜ refusalIn r ≡ valuesRefusal (valuesLent code memory intervals limit first) ⌝ }
 {
-    let table = [0u64; ENTRY_WORDS];
-    let report = [0u8; PATH_BYTES];
-    ask(code, memory, intervals, limit, &table, &report, first)
+    if !code_fits(code.len() as u64) {
+        return Questioned::No(Refusal::Code);
+    }
+    if !intervals_fit(intervals.len() as u64) {
+        return Questioned::No(Refusal::Inputs);
+    }
+    if !in_order(intervals) {
+        return Questioned::No(Refusal::Order);
+    }
+    if !limit_fits(limit) {
+        return Questioned::No(Refusal::Limit);
+    }
+    if !memory_fits(memory.len()) {
+        return Questioned::No(Refusal::Memory);
+    }
+    if !first_fits(first) {
+        return Questioned::No(Refusal::First);
+    }
+    Questioned::AllYes
 }
 
 // Writes a job whose values pass, if the space is long enough.
@@ -83,17 +104,17 @@ fn write_accepted(
     limit: u64,
     first: u64,
     job: &mut [u8],
-) -> WriteAnswer
+) -> Completion
     requires { ⌜ valuesRefusal (valuesOf (now code) (now memory) (now intervals) limit first) ≡ none ⌝ }
-    ensures { λ r. ⌜ writeLeft r (now (job .exit)) ≡ jobWrittenOn (valuesLent code memory intervals limit first) job ⌝ }
+    ensures { λ r. ⌜ doneLeft r (now (job .exit)) ≡ jobWrittenOn (valuesLent code memory intervals limit first) job ⌝ }
 {
     let n = given_count(memory);
-    let bytes = BLOCK_BYTES * blocks_needed(code.len(), n);
+    let bytes = BLOCK_BYTES * blocks_needed(intervals.len() / 2, code.len(), n);
     if !(bytes <= job.len()) {
-        return WriteAnswer::Refused(WriteRefusal::Space);
+        return Completion::Refused(Refusal::Space);
     }
     put_job(code, &memory[..n], intervals, limit, first, job);
-    WriteAnswer::Written(bytes as u64)
+    Completion::Done(bytes as u64)
 }
 
 // Writes the job of these values, or refuses the call.
@@ -104,12 +125,12 @@ pub fn write_job(
     limit: u64,
     first: u64,
     job: &mut [u8],
-) -> WriteAnswer
-    ensures { λ r. ⌜ writeLeft r (now (job .exit)) ≡ jobWrittenOn (valuesLent code memory intervals limit first) job ⌝ }
+) -> Completion
+    ensures { λ r. ⌜ doneLeft r (now (job .exit)) ≡ jobWrittenOn (valuesLent code memory intervals limit first) job ⌝ }
 {
     let d = ask_values(code, memory, intervals, limit, first);
     let Questioned::No(r) = d else {
         return write_accepted(code, memory, intervals, limit, first, job);
     };
-    WriteAnswer::Refused(WriteRefusal::Value(r))
+    Completion::Refused(r)
 }

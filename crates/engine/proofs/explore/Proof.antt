@@ -1,7 +1,7 @@
 use Rattle.engine.proofs.Refusing.{refused-leaves}
 use denote.Ref.{now}
 use mathlib.Core.Path.{sym, ap, _∙_}
-use Rattle.calls.specs.Border.{refusalIn}
+use Rattle.calls.specs.Working.Asking.{refusalIn}
 use borrow.Author.Needs.{needs}
 use Rattle.engine.proofs.explore.Statement.{statement}
 use Rattle.engine.proofs.explore.Tie as tie

@@ -1,6 +1,6 @@
 use Rattle.listing.proofs.Matches.{by-case, by-held}
 use Rattle.listing.specs.Group.{sortingOf}
-use Rattle.riscu.specs.declared.Instruction.the-variants.{Addi}
+use Rattle.riscu.specs.declared.Instruction.the-variants.{Immediate}
 use mathlib.Core.Path.{refl}
 use borrow.Author.Needs.{needs}
 use Rattle.listing.proofs.sorting_of.Statement.{statement}
@@ -13,7 +13,7 @@ returns c = by-case sortingOf (c .before .i .given .1) refl
 returns-2 : tie.Need-returns-2
 returns-2 c =
     let g = c .before .before .i2 .given in
-    by-held sortingOf (Addi (g .0 .0) (g .0 .1 .0)) (g .0 .1 .1 .0) (search needs) (g .1) (c .adds .ensures)
+    by-held sortingOf (Immediate (g .0 .0) (g .0 .1 .0) (g .0 .1 .1 .0)) (g .0 .1 .1 .1 .0) (search needs) (g .1) (c .immediate-sorting .ensures)
 
 returns-3 : tie.Need-returns-3
 unfolding sortingOf
@@ -29,7 +29,7 @@ returns-5 c = by-case sortingOf (c .before .i5 .given .1) refl
 
 returns-6 : tie.Need-returns-6
 unfolding sortingOf
-returns-6 c = by-case sortingOf (c .before .i6 .given .1) refl
+returns-6 c = by-case sortingOf (c .before .before .i6 .given .1) (c .branch-sorting .ensures)
 
 returns-7 : tie.Need-returns-7
 unfolding sortingOf
@@ -48,8 +48,8 @@ sorting-of-spec =
     tie.close
     (tie.spec
     (λ c. search needs) (λ c. search needs) (λ c κs. search needs) (λ c. search needs) (λ c κs. search needs)
-    (λ c. search needs) (λ c. search needs) (λ c. search needs) (λ c. search needs) (λ c. search needs)
-    (λ c. search needs)
+    (λ c. search needs) (λ c. search needs) (λ c. search needs) (λ c κs. search needs) (λ c. search needs)
+    (λ c. search needs) (λ c. search needs)
     returns
     returns-2
     returns-3

@@ -2,14 +2,15 @@
 -- Assumes nothing.
 use mathlib.Core.Path.{ap, _∙_}
 use borrow.Author.Needs.{needs}
-use Rattle.sheets.specs.Sheet.{SheetLeft, sheetAnswerNumber}
+use Rattle.calls.specs.Border.{refusedNumber}
+use Rattle.calls.specs.Done.{DoneLeft, refusalFrom}
 use Rattle.mirokefa_c.proofs.mirokefa_sheet.Statement.{statement}
 use Rattle.mirokefa_c.proofs.mirokefa_sheet.Tie as tie
 
 returns : tie.Need-returns
 returns c =
     let e = c .before .before .before .print-sheet .ensures in
-    (c .sheet-answer-number .ensures ∙ ap (λ (l : SheetLeft). sheetAnswerNumber (l .answer)) e, ap (λ (l : SheetLeft). l .sheet) e)
+    (c .completion-number .ensures ∙ ap (λ (l : DoneLeft). refusedNumber (refusalFrom (l .answer))) e, ap (λ (l : DoneLeft). l .list) e)
 
 pub mirokefa-sheet-spec : {M : Type 1} → statement M
 mirokefa-sheet-spec = tie.close (tie.spec (λ c κs. search needs) (λ c κs. search needs) (λ c. search needs) returns)

@@ -1,4 +1,5 @@
-use Rattle.serving.proofs.JobPassed.{front-length, explored-reply}
+use Rattle.jobs.proofs.Accepted.{front-length}
+use Rattle.serving.proofs.JobPassed.{explored-reply}
 use lib.ListN.{length-replicate}
 use Prim.Native.Nat.{ℕ}
 use Rattle.serving.specs.Served.{tableWords}

@@ -43,8 +43,8 @@ returns c = sym (served-refused _ _ (read-refused (now (c .before .before .befor
 
 returns-2 : tie.Need-returns-2
 returns-2 c =
-    let p = read-passed (now (c .before .before .before .before .before .before .before .before .before .before .before .before .before .before .before .before .before .args .job)) _ _ _ _ _ _ (rw (c .before .before .before .before .before .before .before .before .before .answer2 .given .1) at (c .before .before .before .before .before .before .before .before .before .before .before .read-job .ensures)) in
-    rw (c .served-as .ensures) (served-open _ _ _ _ _ _ _ p code-size intervals-size (c .before .before .before .explore-read .result) _ _ (c .before .before .before .explore-read .ensures))
+    let p = read-passed (now (c .before .before .before .before .before .before .before .before .before .before .before .before .before .before .before .before .args .job)) _ _ _ _ _ _ (rw (c .before .before .before .before .before .before .before .before .answer2 .given .1) at (c .before .before .before .before .before .before .before .before .before .before .read-job .ensures)) in
+    served-open _ _ _ _ _ _ _ p code-size intervals-size (c .before .before .explore-read .result) _ _ (c .before .before .explore-read .ensures)
 
 pub serve-spec : {M : Type 1} → statement M
 serve-spec =
@@ -55,7 +55,6 @@ serve-spec =
     slice-aggregate-explore-read-2
     slice-aggregate-explore-read-3
     explore-read-requires
-    (λ c κs. search needs)
     returns
     (λ c. search needs)
     returns-2)

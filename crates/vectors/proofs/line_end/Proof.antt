@@ -3,7 +3,7 @@ use mathlib.Core.Path.{_≡_, refl, sym, _∙_}
 use Prim.Native.Nat.{_-_, _≤_, _<_}
 use denote.Ref.{now}
 use lib.ListN.{length, drop}
-use Rattle.vectors.specs.Text.{lineFrom}
+use Rattle.vectors.specs.Working.Text.{lineFrom}
 use Rattle.vectors.proofs.Steps.{line-ends, line-goes, line-stops}
 use Rattle.vectors.proofs.line_end.Statement.{statement}
 use Rattle.vectors.proofs.line_end.Tie as tie

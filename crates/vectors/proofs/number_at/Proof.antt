@@ -4,7 +4,7 @@ use mathlib.Core.Path.{_≡_, refl, sym, _∙_}
 use Prim.Native.Nat.{_-_, _<_}
 use denote.Ref.{now}
 use lib.ListN.{length, drop}
-use Rattle.vectors.specs.Text.{numberFrom}
+use Rattle.vectors.specs.Working.Text.{numberFrom}
 use Rattle.vectors.proofs.Steps.{number-ends, number-goes, number-stops}
 use Rattle.vectors.proofs.number_at.Statement.{statement}
 use Rattle.vectors.proofs.number_at.Tie as tie

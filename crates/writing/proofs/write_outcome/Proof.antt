@@ -5,7 +5,7 @@ use Rattle.writing.proofs.write_outcome.Statement.{statement}
 use Rattle.writing.proofs.write_outcome.Tie as tie
 
 returns : tie.Need-returns
-returns c = rw (c .before .before .a .given .1, c .write-number .ensures)
+returns c = rw (c .before .before .a .given .1, c .refusal-number .ensures)
 
 returns-2 : tie.Need-returns-2
 returns-2 c = rw (c .before .a2 .given .1)

@@ -8,7 +8,7 @@ use borrow.Author.Needs.{needs}
 use denote.Ref.{now}
 use lib.ListN.{length, take, drop}
 use Rattle.blocks.specs.Block.{payloadWords, checkFrom, check, payload}
-use Rattle.blocks.specs.Writing.{put}
+use Rattle.blocks.specs.Working.Writing.{put}
 use Rattle.blocks.proofs.Bytes.{bytesOfAll}
 use Rattle.blocks.proofs.Written.{word-turn, check-turn, block-done}
 use Rattle.blocks.proofs.Puts.{put-none}

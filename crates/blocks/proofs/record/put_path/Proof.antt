@@ -6,7 +6,7 @@ use denote.Ref.{now}
 use lib.ListN.{length}
 use Rattle.boxes.proofs.TwoLists.{length-in}
 use Rattle.blocks.specs.Block.{payloadWords}
-use Rattle.blocks.specs.Writing.{pathIn}
+use Rattle.blocks.specs.Working.Writing.{pathIn}
 use Rattle.blocks.proofs.Rows.{path-written}
 use borrow.Author.Needs.{needs}
 use Rattle.blocks.proofs.record.put_path.Statement.{statement}

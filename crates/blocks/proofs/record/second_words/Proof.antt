@@ -7,7 +7,7 @@ use native.Mathlib.Omega.{arith}
 use borrow.Author.Needs.{needs}
 use denote.Ref.{now}
 use lib.ListN.{length, take, drop, length-set}
-use Rattle.boxes.specs.Cuts.{boxIn}
+use Rattle.boxes.specs.Working.Cuts.{boxIn}
 use Rattle.blocks.specs.Block.{payloadWords}
 use Rattle.blocks.specs.Record.{ends}
 use Rattle.blocks.proofs.Rows.{pair-more, pairs-done}

@@ -7,7 +7,7 @@ use native.Mathlib.Omega.{arith}
 use native.Mathlib.Nat.{add-zero}
 use lib.ListN.{length, set, take, drop, length-set, take-append-drop}
 use Rattle.blocks.specs.Block.{wordBytes, bytesOf}
-use Rattle.blocks.specs.Writing.{put}
+use Rattle.blocks.specs.Working.Writing.{put}
 use Rattle.blocks.proofs.Bytes.{bytes-length}
 use Rattle.blocks.proofs.Puts.{byte-more}
 use Rattle.blocks.proofs.words.put_word.Statement.{statement}

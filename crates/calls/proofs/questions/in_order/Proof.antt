@@ -4,7 +4,8 @@ use mathlib.Core.Path.{_≡_, refl, sym, _∙_}
 use Prim.Native.Nat.{_-_, _≤_}
 use denote.Ref.{now}
 use lib.ListN.{length, drop}
-use Rattle.calls.specs.Call.{boxOf, inOrder}
+use Rattle.calls.specs.Call.{boxOf}
+use Rattle.calls.specs.Questions.{inOrder}
 use Rattle.calls.proofs.Asked.{pairs-end, pairs-stop, pairs-go}
 use Rattle.calls.proofs.questions.in_order.Statement.{statement}
 use Rattle.calls.proofs.questions.in_order.Tie as tie

@@ -6,20 +6,20 @@ use native.Mathlib.Omega.{arith}
 use denote.Ref.{now}
 use borrow.Author.Needs.{needs}
 use lib.ListN.{drop}
-use Rattle.counting.specs.Adding.{partsIn}
-use Rattle.counting.proofs.Held.{Held, none-held, kind-fits, varying-fits, value-room, other-held, varying-held, fixed-held, all-left, next, next-fits, next-few, kind-below, size-countable, all-held}
+use Rattle.counting.specs.Working.Adding.{partsIn}
+use Rattle.counting.proofs.Summed.{Summed, none-summed, kind-fits, varying-fits, value-room, other-summed, varying-summed, fixed-summed, all-left, next, next-fits, next-few, kind-below, size-countable, all-summed}
 use Rattle.counting.proofs.adding.add_up.Statement.{statement}
 use Rattle.counting.proofs.adding.add_up.Tie as tie
 
 abbrev Inv-loop : tie.InvT-loop
 Inv-loop report inputs count total values₀ choices₀ kinds₀ used₀ varying₀ k₀ values choices kinds used varying k =
-    (k ≤ count) × Held (drop k (partsIn inputs report count)) values choices kinds used varying
+    (k ≤ count) × Summed (drop k (partsIn inputs report count)) values choices kinds used varying
 
 abbrev μ-loop : tie.MeasureT-loop
 μ-loop report inputs count total values₀ choices₀ kinds₀ used₀ varying₀ k₀ values choices kinds used varying k = k
 
 loop-holds : tie.Need-loop-holds Inv-loop μ-loop
-loop-holds c = (omega arith, none-held (all-left (c .before .pre)))
+loop-holds c = (omega arith, none-summed (all-left (c .before .pre)))
 
 sub-k : tie.Need-sub-k Inv-loop μ-loop
 sub-k c = omega arith
@@ -61,7 +61,7 @@ loop-again : tie.Need-loop-again Inv-loop μ-loop
 loop-again c =
     let entry = c .before .before .before .before .before .before .before .before in
     let l = c .before .before .before .before .before .before .loop in
-    (omega arith, other-held (l .inv .1) _ _ _ _ (next (entry .pre) (omega arith) (l .inv .0) (c .before .before .before .before .path-size .ensures) (c .before .before .before .record-word .ensures) (c .before .before .record-word2 .ensures) (c .before .record-word3 .ensures)) (c .if1 .taken) (kind-below (entry .pre) (omega arith) (l .inv .0) (c .before .before .before .record-word .ensures)))
+    (omega arith, other-summed (l .inv .1) _ _ _ _ (next (entry .pre) (omega arith) (l .inv .0) (c .before .before .before .before .path-size .ensures) (c .before .before .before .record-word .ensures) (c .before .before .record-word2 .ensures) (c .before .record-word3 .ensures)) (c .if1 .taken) (kind-below (entry .pre) (omega arith) (l .inv .0) (c .before .before .before .record-word .ensures)))
 
 slice-aggregate-add-value : tie.Need-slice-aggregate-add-value Inv-loop μ-loop
 slice-aggregate-add-value c = search needs
@@ -82,7 +82,7 @@ loop-again-2 : tie.Need-loop-again-2 Inv-loop μ-loop
 loop-again-2 c =
     let entry = c .before .before .before .before .before .before .before .before .before .before .before .before .before .before in
     let l = c .before .before .before .before .before .before .before .before .before .before .before .before .loop in
-    (omega arith, fixed-held (l .inv .1) _ _ _ _ (next (entry .pre) (omega arith) (l .inv .0) (c .before .before .before .before .before .before .before .before .before .before .path-size .ensures) (c .before .before .before .before .before .before .before .before .before .record-word .ensures) (c .before .before .before .before .before .before .before .before .record-word2 .ensures) (c .before .before .before .before .before .before .before .record-word3 .ensures)) (c .before .before .before .before .before .before .if1 .left) (omega (arith, c .before .before .before .before .before .if2 .taken)) (c .before .before .add-value .kept .0) (c .before .before .add-value .kept .1 .0) (c .before .before .add-value .ensures))
+    (omega arith, fixed-summed (l .inv .1) _ _ _ _ (next (entry .pre) (omega arith) (l .inv .0) (c .before .before .before .before .before .before .before .before .before .before .path-size .ensures) (c .before .before .before .before .before .before .before .before .before .record-word .ensures) (c .before .before .before .before .before .before .before .before .record-word2 .ensures) (c .before .before .before .before .before .before .before .record-word3 .ensures)) (c .before .before .before .before .before .before .if1 .left) (omega (arith, c .before .before .before .before .before .if2 .taken)) (c .before .before .add-value .kept .0) (c .before .before .add-value .kept .1 .0) (c .before .before .add-value .ensures))
 
 add-varying : tie.Need-add-varying Inv-loop μ-loop
 add-varying c =
@@ -97,7 +97,7 @@ loop-again-3 : tie.Need-loop-again-3 Inv-loop μ-loop
 loop-again-3 c =
     let entry = c .before .before .before .before .before .before .before .before .before in
     let l = c .before .before .before .before .before .before .before .loop in
-    (omega arith, varying-held (l .inv .1) _ _ _ _ (next (entry .pre) (omega arith) (l .inv .0) (c .before .before .before .before .before .path-size .ensures) (c .before .before .before .before .record-word .ensures) (c .before .before .before .record-word2 .ensures) (c .before .before .record-word3 .ensures)) (c .before .if1 .left) (omega (arith, c .if2 .left)))
+    (omega arith, varying-summed (l .inv .1) _ _ _ _ (next (entry .pre) (omega arith) (l .inv .0) (c .before .before .before .before .before .path-size .ensures) (c .before .before .before .before .record-word .ensures) (c .before .before .before .record-word2 .ensures) (c .before .before .record-word3 .ensures)) (c .before .if1 .left) (omega (arith, c .if2 .left)))
 
 returns : tie.Need-returns Inv-loop μ-loop
 returns c =
@@ -105,8 +105,8 @@ returns c =
     let a = entry .args in
     let l = c .before .loop in
     let z : l .k ≡ 0 = omega arith in
-    all-held (entry .pre)
-    (subst (λ (i : ℕ). Held (drop i (partsIn (a .inputs) (now (a .report)) (a .count))) (l .values) (l .choices) (l .kinds) (l .used) (l .varying)) z (l .inv .1))
+    all-summed (entry .pre)
+    (subst (λ (i : ℕ). Summed (drop i (partsIn (a .inputs) (now (a .report)) (a .count))) (l .values) (l .choices) (l .kinds) (l .used) (l .varying)) z (l .inv .1))
 
 pub add-up-spec : {M : Type 1} → statement M
 add-up-spec =

@@ -4,7 +4,7 @@ use mathlib.Core.Path.{_≡_, refl}
 use Prim.Native.Nat.{_-_, _≤_}
 use native.Mathlib.Omega.{arith}
 use lib.ListN.{length, take, length-set}
-use Rattle.counting.specs.Adding.{entry, joined, carried, laid}
+use Rattle.counting.specs.Working.Adding.{entry, joined, carried, laid}
 use Rattle.counting.proofs.Sliding.{Going, turn-fits, turn-passed, turn-swapped, turn-hit, turn-ended}
 use Rattle.counting.proofs.adding.add_value.Statement.{statement}
 use Rattle.counting.proofs.adding.add_value.Tie as tie

@@ -7,7 +7,7 @@ use denote.Ref.{now}
 use Rattle.riscu.specs.Limits.{codeWords}
 use Rattle.blocks.specs.Record.{mostInputs}
 use Rattle.serving.proofs.JobPassed.{read-refused, read-passed, code-length, intervals-length, memory-length}
-use Rattle.counting.specs.Adding.{countedJob}
+use Rattle.counting.specs.Working.Adding.{countedJob}
 use Rattle.counting.proofs.Read.{job-refused, job-counted, job-is, job-passed}
 use native.Mathlib.Omega.{arith}
 use borrow.Author.Needs.{needs}

@@ -1,7 +1,7 @@
 -- `counting::counting::count_read` meets its contract: the questions 15 and 16, and then the sums of the report.
 -- Assumes nothing.
 use mathlib.Core.Path.{sym, _∙_}
-use Rattle.serving.proofs.JobPassed.{front-length}
+use Rattle.jobs.proofs.Accepted.{front-length}
 use Rattle.counting.proofs.Started.{start-proper, start-over, start-refused, start-many, start-adds, start-counted}
 use borrow.Author.Needs.{needs}
 use Rattle.counting.proofs.counting.count_read.Statement.{statement}

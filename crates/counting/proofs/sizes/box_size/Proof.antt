@@ -5,7 +5,7 @@ use native.Mathlib.Nat.{div-le-self}
 use native.Mathlib.Omega.{arith}
 use denote.Ref.{now}
 use lib.ListN.{length, getD}
-use Rattle.riscu.specs.Word.{maxWord}
+use Rattle.words.specs.Word.{maxWord}
 use Rattle.calls.specs.Call.{boxOf}
 use Rattle.calls.proofs.Pairs.{pairs-length, pair-is}
 use Rattle.counting.proofs.Products.{Multiplied, none-multiplied, all-multiplied, in-order, one-multiplied, too-large, small-enough, size-fits}

@@ -4,13 +4,13 @@ use Prim.Native.Nat.{_-_, _≤_}
 use native.Mathlib.Omega.{arith}
 use denote.Ref.{now}
 use Rattle.blocks.specs.Report.{recordAt}
-use Rattle.counting.specs.Adding.{boxAt}
+use Rattle.blocks.specs.Said.{saidAt}
 use Rattle.counting.proofs.Products.{Multiplied, none-multiplied, all-multiplied, in-order, product-fits, width-fits, one-multiplied, record-length, interval-is}
 use Rattle.counting.proofs.sizes.path_size.Statement.{statement}
 use Rattle.counting.proofs.sizes.path_size.Tie as tie
 
 abbrev Inv-loop : tie.InvT-loop
-Inv-loop report inputs k n₀ i₀ n i = (i ≤ inputs) × Multiplied (boxAt inputs (recordAt inputs report k)) n i
+Inv-loop report inputs k n₀ i₀ n i = (i ≤ inputs) × Multiplied (saidAt inputs report k .box) n i
 
 abbrev μ-loop : tie.MeasureT-loop
 μ-loop report inputs k n₀ i₀ n i = inputs - i
@@ -21,11 +21,11 @@ loop-holds c = (omega arith, none-multiplied _)
 
 -- src/sizes.rt:47:13
 input-low-requires : tie.Need-input-low-requires Inv-loop μ-loop
-input-low-requires c κs = (c .before .before .before .pre .0, omega (arith, c .before .before .before .pre .1))
+input-low-requires c κs = (c .before .before .before .pre .0, omega arith, c .before .before .before .pre .1)
 
 -- src/sizes.rt:48:13
 input-high-requires : tie.Need-input-high-requires Inv-loop μ-loop
-input-high-requires c κs = (c .before .before .before .before .pre .0, omega (arith, c .before .before .before .before .pre .1))
+input-high-requires c κs = (c .before .before .before .before .pre .0, omega arith, c .before .before .before .before .pre .1)
 
 -- src/sizes.rt:49:18
 sub-n : tie.Need-sub-n Inv-loop μ-loop

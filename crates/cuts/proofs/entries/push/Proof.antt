@@ -3,7 +3,7 @@ use native.Mathlib.Omega.{arith}
 use lib.ListN.{length-set}
 use denote.Ref.{now}
 use Rattle.forks.proofs.Table.{forks-push}
-use Rattle.cuts.specs.Entries.{forkOf}
+use Rattle.cuts.specs.Working.Entries.{forkOf}
 use borrow.Author.Needs.{needs}
 use Rattle.cuts.proofs.entries.push.Statement.{statement}
 use Rattle.cuts.proofs.entries.push.Tie as tie

@@ -1,5 +1,5 @@
 use native.Mathlib.Nat.{add-zero}
-use Rattle.forks.specs.Table.{forkIn}
+use Rattle.forks.specs.Working.Table.{forkIn}
 use borrow.Author.Needs.{needs}
 use Rattle.cuts.proofs.entries.top.Statement.{statement}
 use Rattle.cuts.proofs.entries.top.Tie as tie

@@ -11,8 +11,8 @@ use Rattle.boxes.proofs.Lists.{not-both}
 use borrow.Author.Tests.{eqb-true, eqb-false}
 use Rattle.listing.specs.Group.{classOf}
 use Rattle.decide.proofs.Decisions.{class-by-registers}
-use Rattle.riscu.specs.Parts.{state}
-use Rattle.cuts.specs.Cutting.{reached, probed}
+use Rattle.riscu.specs.Working.Parts.{state}
+use Rattle.cuts.specs.Working.Cutting.{reached, probed}
 use Rattle.cuts.proofs.Search.{Narrowed, begins, few, goes-up, goes-down, found}
 use Rattle.cuts.proofs.probes.cut.Statement.{statement}
 use Rattle.cuts.proofs.probes.cut.Tie as tie

@@ -1,4 +1,4 @@
-use Rattle.decide.specs.Corner.{onward}
+use Rattle.decide.specs.Working.Corner.{onward}
 use borrow.Author.Tests.{lt-ltb, le-ltb}
 use Prim.Native.Nat.{ℕ, _<_, _≤_}
 use mathlib.Core.Path.{subst}

@@ -1,4 +1,4 @@
-use Rattle.decide.specs.Corner.{cornerView, verdict}
+use Rattle.decide.specs.Working.Corner.{cornerView, verdict}
 use Rattle.riscu.specs.declared.Instruction.the-variants.{Ld}
 use mir.Facts.{toZ-ofZ}
 use lib.IntN.{ℤ}

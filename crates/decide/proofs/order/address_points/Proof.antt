@@ -1,5 +1,5 @@
 use Rattle.listing.proofs.Matches.{by-case, by-held}
-use Rattle.decide.specs.Corner.{cornerView, verdict}
+use Rattle.decide.specs.Working.Corner.{cornerView, verdict}
 use Rattle.listing.specs.Group.{sortingOf}
 use Rattle.listing.specs.Ending.{operandPoints, addressPoints, points}
 use Rattle.riscu.specs.declared.Instruction.the-variants.{Ld, Sd}

@@ -1,5 +1,5 @@
 use Rattle.decide.proofs.Verdicts.{stops, goes, passes, callPoints}
-use Rattle.decide.specs.Corner.{verdict}
+use Rattle.decide.specs.Working.Corner.{verdict}
 use Rattle.listing.specs.Ending.{addressPoints}
 use Prim.Native.Nat.{ℕ}
 use denote.Ref.{now}

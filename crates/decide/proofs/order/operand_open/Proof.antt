@@ -1,6 +1,6 @@
 use Rattle.listing.proofs.Matches.{by-case}
 use Rattle.listing.specs.Ending.{operandOpen}
-use Rattle.decide.specs.Corner.{cornerView}
+use Rattle.decide.specs.Working.Corner.{cornerView}
 use denote.Ref.{now}
 use borrow.Author.Needs.{needs}
 use Rattle.decide.proofs.order.operand_open.Statement.{statement}

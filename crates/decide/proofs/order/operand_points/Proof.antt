@@ -1,5 +1,5 @@
 use Rattle.listing.proofs.Matches.{by-case}
-use Rattle.decide.specs.Corner.{cornerView, verdict}
+use Rattle.decide.specs.Working.Corner.{cornerView, verdict}
 use Rattle.listing.specs.Ending.{operationPoints, operandPoints}
 use Rattle.listing.specs.declared.Sorting.{Sorting}
 use denote.Ref.{now}

@@ -8,32 +8,32 @@ use Rattle.explorer.proofs.branching.fork_on.Tie as tie
 
 add-steps : tie.Need-add-steps
 add-steps c =
-    omega (arith, fork-steps (c .before .before .before .before .before .before .before .before .before .before .pre))
+    let entry = c .before .before .before .before .before .before .before .before .before .before in
+    omega (arith, fork-steps (entry .pre))
 
 add-used : tie.Need-add-used
 add-used c =
-    let h = c .before .before .before .before .before .before .before .before .before .before in
-    omega (arith, fork-used (h .pre), c .before .writes .ensures, h .good .1 .1 .1 .1 .1 .1 .0 .0)
+    let at-writes = c .before in
+    let entry = at-writes .before .before .before .before .before .before .before .before .before in
+    omega (arith, fork-used (entry .pre), at-writes .writes .ensures, entry .good .1 .1 .1 .1 .1 .1 .0 .0)
 
 add-used-2 : tie.Need-add-used-2
 add-used-2 c =
     let at-writes = c .before .before in
     let entry = at-writes .before .before .before .before .before .before .before .before .before in
-    let h = entry in
-    omega (arith, fork-used (h .pre), at-writes .writes .ensures, h .good .1 .1 .1 .1 .1 .1 .0 .0)
+    omega (arith, fork-used (entry .pre), at-writes .writes .ensures, entry .good .1 .1 .1 .1 .1 .1 .0 .0)
 
 add-forks : tie.Need-add-forks
 add-forks c =
-    let h = c .before .before .before .before .before .before .before .before .before .before .before .before in
-    omega (arith, fork-entry (h .pre), h .good .1 .1 .1 .1 .1 .1 .0 .0)
+    let entry = c .before .before .before .before .before .before .before .before .before .before .before .before in
+    omega (arith, fork-entry (entry .pre), entry .good .1 .1 .1 .1 .1 .1 .0 .0)
 
 mul-lo : tie.Need-mul-lo
 mul-lo c =
     let at-class-tag = c .before .before in
     let entry = at-class-tag .before .before .before .before .before .before .before .before .before .before .before .before .before .before .before .before in
-    let h = entry in
     let t = at-class-tag .class-tag in
-    omega (arith, h .good .1 .1 .1 .1 .0 .1, tag-inside (h .pre) (t .result) (t .ensures))
+    omega (arith, entry .good .1 .1 .1 .1 .0 .1, tag-inside (entry .pre) (t .result) (t .ensures))
 
 slice-read-lo : tie.Need-slice-read-lo
 slice-read-lo c =
@@ -46,9 +46,8 @@ mul-hi : tie.Need-mul-hi
 mul-hi c =
     let at-class-tag = c .before .before .before in
     let entry = at-class-tag .before .before .before .before .before .before .before .before .before .before .before .before .before .before .before .before in
-    let h = entry in
     let t = at-class-tag .class-tag in
-    omega (arith, h .good .1 .1 .1 .1 .0 .1, tag-inside (h .pre) (t .result) (t .ensures))
+    omega (arith, entry .good .1 .1 .1 .1 .0 .1, tag-inside (entry .pre) (t .result) (t .ensures))
 
 slice-read-hi : tie.Need-slice-read-hi
 slice-read-hi c =
@@ -60,7 +59,7 @@ slice-read-hi c =
 
 part-requires : tie.Need-part-requires
 part-requires c κs =
-    let at-class-of = c .before .before .before .before .before .before .before .before .before in
+    let at-class-of = c .before .before .before .before .before .before .before in
     let at-class-tag = at-class-of .before .before in
     let entry = at-class-tag .before .before .before .before .before .before .before .before .before .before .before .before .before .before .before .before in
     let t = at-class-tag .class-tag in
@@ -70,20 +69,24 @@ part-requires c κs =
 note-requires : tie.Need-note-requires
 note-requires c κs =
     let at-part = c .before .before .before in
-    let entry = at-part .before .before .before .before .before .before .before .before .before .before .before .before .before .before .before .before .before .before .before .before .before .before .before .before .before .before .before .before in
+    let entry = at-part .before .before .before .before .before .before .before .before .before .before .before .before .before .before .before .before .before .before .before .before .before .before .before .before .before .before in
     (fork-entry (entry .pre), at-part .part .ensures .0 .edge .below-hi)
 
 same-length-2 : tie.Need-same-length-2
-same-length-2 c = c .before .before .before .before .before .before .before .before .before .before .before .before .before .before .before .before .before .part .kept .1 .1 .1 .1 .1 .0
+same-length-2 c =
+    let at-part = c .before .before .before .before .before .before .before .before .before .before .before .before .before .before .before .before .before in
+    at-part .part .kept .1 .1 .1 .1 .1 .1 .0
 
 same-length-3 : tie.Need-same-length-3
-same-length-3 c = c .before .before .before .before .before .before .before .before .before .before .before .before .before .note .kept .0
+same-length-3 c =
+    let at-note = c .before .before .before .before .before .before .before .before .before .before .before .before .before in
+    at-note .note .kept .0
 
 returns : tie.Need-returns
 returns c =
     let at-note = c .before .before .before .before .before .before .before .before .before .before .before .before .before in
     let at-part = at-note .before .before .before .before in
-    let at-class-of = at-part .before .before .before .before .before .before .before .before .before .before in
+    let at-class-of = at-part .before .before .before .before .before .before .before .before in
     let at-class-tag = at-class-of .before .before in
     let at-writes = at-class-tag .before .before .before .before .before .before .before in
     let entry = at-writes .before .before .before .before .before .before .before .before .before in
@@ -110,11 +113,9 @@ fork-on-spec =
     slice-read-lo
     mul-hi
     slice-read-hi
-    (λ c κs. search needs)
     part-requires
     note-requires
-    (λ c κs. search needs)
-    (λ c. refl)
+    (λ c κs. search needs) (λ c. refl)
     same-length-2
     same-length-3
     returns)

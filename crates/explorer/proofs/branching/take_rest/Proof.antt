@@ -6,6 +6,11 @@ use borrow.Author.Needs.{needs}
 use Rattle.explorer.proofs.branching.take_rest.Statement.{statement}
 use Rattle.explorer.proofs.branching.take_rest.Tie as tie
 
+same-length-3 : tie.Need-same-length-3
+same-length-3 c =
+    let at-spend = c .before .before .before .before .before .before .before .before .before .before .before in
+    at-spend .spend .kept .0
+
 returns : tie.Need-returns
 returns c =
     let at-spend = c .before .before .before .before .before .before .before .before .before .before .before in
@@ -19,7 +24,7 @@ returns c =
 
 part-requires : tie.Need-part-requires
 part-requires c κs =
-    let at-if1 = c .before .before .before .before .before .before .before .before .before in
+    let at-if1 = c .before .before .before .before .before .before in
     let at-class-of2 = at-if1 .before in
     let at-class-of = at-class-of2 .before .before in
     let entry = at-class-of .before .before .before .before .before .before in
@@ -34,17 +39,28 @@ part-requires c κs =
 rise-requires : tie.Need-rise-requires
 rise-requires c κs =
     let at-part = c .before .before .before in
-    let entry = at-part .before .before .before .before .before .before .before .before .before .before .before .before .before .before .before .before .before .before .before in
+    let entry = at-part .before .before .before .before .before .before .before .before .before .before .before .before .before .before .before .before in
     (entry .pre .entry, at-part .part .ensures .0 .edge .below-hi)
+
+same-length-5 : tie.Need-same-length-5
+same-length-5 c =
+    let at-part = c .before .before .before .before .before .before .before .before .before .before .before .before .before .before .before .before .before in
+    at-part .part .kept .1 .1 .1 .1 .1 .1 .0
+
+same-length-6 : tie.Need-same-length-6
+same-length-6 c =
+    let at-rise = c .before .before .before .before .before .before .before .before .before .before .before .before .before in
+    at-rise .rise .kept .0
 
 returns-2 : tie.Need-returns-2
 returns-2 c =
     let at-rise = c .before .before .before .before .before .before .before .before .before .before .before .before .before in
     let at-part = at-rise .before .before .before .before in
-    let at-if1 = at-part .before .before .before .before .before .before .before .before .before .before in
+    let at-if1 = at-part .before .before .before .before .before .before .before in
     let at-class-of2 = at-if1 .before in
     let at-class-of = at-class-of2 .before .before in
-    let a = at-class-of .before .before .before .before .before .before .args in
+    let entry = at-class-of .before .before .before .before .before .before in
+    let a = entry .args in
     let p = at-part .part in
     let e = at-class-of .class-of .ensures in
     inr (
@@ -62,11 +78,14 @@ pub take-rest-spec : {M : Type 1} → statement M
 take-rest-spec =
     tie.close
     (tie.spec
-    (λ c κs. search needs) (λ c κs. search needs) (λ c κs. search needs) (λ c κs. search needs) (λ c. search needs)
-    (λ c. search needs) (λ c. search needs)
+    (λ c κs. search needs) (λ c κs. search needs) (λ c κs. search needs) (λ c κs. search needs) (λ c. refl)
+    (λ c. refl)
+    same-length-3
     returns
-    (λ c. search needs) (λ c. search needs) (λ c. search needs) (λ c. search needs) (λ c κs. search needs)
+    (λ c. search needs) (λ c. search needs)
     part-requires
     rise-requires
-    (λ c κs. search needs) (λ c. search needs) (λ c. search needs) (λ c. search needs)
+    (λ c κs. search needs) (λ c. refl)
+    same-length-5
+    same-length-6
     returns-2)

@@ -10,6 +10,26 @@ run-turns-requires c κs =
     let r = at-replay .replay in
     begins-explored (entry .pre) _ (r .result) (r .ensures)
 
+same-length : tie.Need-same-length
+same-length c =
+    let at-run-turns = c .before .before .before .before .before .before .before .before in
+    at-run-turns .run-turns .kept .1 .1 .1 .1 .1 .0
+
+same-length-2 : tie.Need-same-length-2
+same-length-2 c =
+    let at-run-turns = c .before .before .before .before .before .before .before .before in
+    at-run-turns .run-turns .kept .1 .1 .1 .1 .1 .1 .0
+
+same-length-3 : tie.Need-same-length-3
+same-length-3 c =
+    let at-run-turns = c .before .before .before .before .before .before .before .before in
+    at-run-turns .run-turns .kept .1 .1 .1 .1 .1 .1 .1 .0
+
+same-length-4 : tie.Need-same-length-4
+same-length-4 c =
+    let at-run-turns = c .before .before .before .before .before .before .before .before in
+    at-run-turns .run-turns .kept .1 .1 .1 .1 .1 .1 .1 .1 .0
+
 returns : tie.Need-returns
 returns c =
     let at-run-turns = c .before .before .before .before .before .before .before .before in
@@ -24,5 +44,8 @@ explore-box-spec =
     (tie.spec
     (λ c κs. search needs)
     run-turns-requires
-    (λ c. search needs) (λ c. search needs) (λ c. search needs) (λ c. search needs)
+    same-length
+    same-length-2
+    same-length-3
+    same-length-4
     returns)

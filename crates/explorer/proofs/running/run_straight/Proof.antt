@@ -4,7 +4,13 @@ use Rattle.explorer.proofs.running.run_straight.Statement.{statement}
 use Rattle.explorer.proofs.running.run_straight.Tie as tie
 
 returns : tie.Need-returns
-returns c = runs-on _ (c .before .before .straight-steps .ensures)
+returns c =
+    let at-straight-steps = c .before .before .before in
+    rw (c .at-group .ensures) (runs-on _ (at-straight-steps .straight-steps .ensures))
 
 pub run-straight-spec : {M : Type 1} → statement M
-run-straight-spec = tie.close (tie.spec (λ c κs. search needs) returns)
+run-straight-spec =
+    tie.close
+    (tie.spec
+    (λ c κs. search needs) (λ c κs. search needs)
+    returns)

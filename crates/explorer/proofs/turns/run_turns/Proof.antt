@@ -1,10 +1,11 @@
 use Rattle.pages.proofs.Page.{kept-later}
-use Rattle.pages.specs.Page.{filled}
-use Rattle.explorer.specs.Explored.{Explored}
-use Rattle.explorer.specs.Held.{lists, jobIn, work}
-use Rattle.lockstep.specs.Together.{machines}
+use Rattle.pages.specs.Working.Page.{filled}
+use Rattle.explorer.specs.Working.Explored.{Explored}
+use Rattle.explorer.specs.Working.Held.{lists, jobIn, work}
+use Rattle.lockstep.specs.Working.LockStep.{machines}
 use lib.ListN.{length, drop}
-use mathlib.Core.Path.{_≡_, refl, _∙_}
+use mathlib.Core.Path.{_≡_, refl, sym, _∙_}
+use borrow.Author.Needs.{needs}
 use Rattle.explorer.proofs.turns.run_turns.Statement.{statement}
 use Rattle.explorer.proofs.turns.run_turns.Tie as tie
 
@@ -20,21 +21,26 @@ abbrev μ-loop : tie.MeasureT-loop
     work (jobIn code memory intervals limits) (lists lows highs table (machines low lowmem high highmem tags tagmem)) s
 
 loop-holds : tie.Need-loop-holds Inv-loop μ-loop
-loop-holds c = (c .before .before .before .before .before .before .pre, refl, refl, refl, refl, refl)
+loop-holds c =
+    let entry = c .before .before .before .before .before .before in
+    (entry .pre, refl, refl, refl, refl, refl)
 
 turn-requires : tie.Need-turn-requires Inv-loop μ-loop
 turn-requires c κs =
-    let at-loop-test = c .before .before .before .before .before .before .before .before .before .before in
-    let at-loop = at-loop-test .before in
-    record { explored = at-loop .loop .inv .0; going = at-loop-test .loop-test .taken }
+    let at-if1 = c .before .before .before .before .before .before .before .before .before .before in
+    let at-is-going = at-if1 .before in
+    let at-loop = at-is-going .before in
+    (at-loop .loop .inv .0, sym (at-is-going .is-going .ensures) ∙ at-if1 .if1 .taken)
 
 loop-less : tie.Need-loop-less Inv-loop μ-loop
-loop-less c = c .before .before .before .before .before .before .before .before .turn .ensures .less
+loop-less c =
+    let at-turn = c .before .before .before .before .before .before .before .before in
+    at-turn .turn .ensures .less
 
 loop-again : tie.Need-loop-again Inv-loop μ-loop
 loop-again c =
     let at-turn = c .before .before .before .before .before .before .before .before in
-    let at-loop = at-turn .before .before .before .before .before .before .before .before .before .before .before .before in
+    let at-loop = at-turn .before .before .before .before .before .before .before .before .before .before .before .before .before in
     let entry = at-loop .before .before .before .before .before .before .before in
     let t = at-turn .turn in
     let l = at-loop .loop in
@@ -48,21 +54,31 @@ loop-again c =
     )
 
 same-length : tie.Need-same-length Inv-loop μ-loop
-same-length c = c .before .loop .inv .2
+same-length c =
+    let at-loop = c .before .before in
+    at-loop .loop .inv .2
 
 same-length-2 : tie.Need-same-length-2 Inv-loop μ-loop
-same-length-2 c = c .before .loop .inv .3
+same-length-2 c =
+    let at-loop = c .before .before in
+    at-loop .loop .inv .3
 
 same-length-3 : tie.Need-same-length-3 Inv-loop μ-loop
-same-length-3 c = c .before .loop .inv .4
+same-length-3 c =
+    let at-loop = c .before .before in
+    at-loop .loop .inv .4
 
 same-length-4 : tie.Need-same-length-4 Inv-loop μ-loop
-same-length-4 c = c .before .loop .inv .5
+same-length-4 c =
+    let at-loop = c .before .before in
+    at-loop .loop .inv .5
 
 returns : tie.Need-returns Inv-loop μ-loop
 returns c =
-    let i = c .before .loop .inv in
-    (i .0, (c .loop-test .left, i .1))
+    let at-is-going = c .before in
+    let at-loop = at-is-going .before in
+    let i = at-loop .loop .inv in
+    (i .0, (sym (at-is-going .is-going .ensures) ∙ c .if1 .left, i .1))
 
 pub run-turns-spec : {M : Type 1} → statement M
 run-turns-spec =
@@ -71,6 +87,7 @@ run-turns-spec =
     Inv-loop
     μ-loop
     loop-holds
+    (λ c κs. search needs)
     turn-requires
     loop-less
     loop-again

@@ -6,8 +6,8 @@ use borrow.Author.Needs.{needs}
 use Rattle.explorer.proofs.turns.step_on.Statement.{statement}
 use Rattle.explorer.proofs.turns.step_on.Tie as tie
 
-add-t23 : tie.Need-add-t23
-add-t23 c =
+add-at-group-2 : tie.Need-add-at-group-2
+add-at-group-2 c =
     let at-writes = c .before .before .before .before .before .before .before .before .before in
     let entry = at-writes .before .before .before .before .before .before in
     let a = entry .args in
@@ -16,9 +16,15 @@ add-t23 c =
 
 returns : tie.Need-returns
 returns c =
-    let at-advance = c .before .before in
+    let at-advance = c .before .before .before in
     let at-writes = at-advance .before .before .before .before .before .before .before in
-    rw (at-writes .writes .ensures) (refl, at-advance .advance .ensures)
+    rw (c .at-group .ensures, at-writes .writes .ensures) (refl, at-advance .advance .ensures)
 
 pub step-on-spec : {M : Type 1} → statement M
-step-on-spec = tie.close (tie.spec (λ c κs. search needs) (λ c κs. search needs) (λ c. search needs) add-t23 returns)
+step-on-spec =
+    tie.close
+    (tie.spec
+    (λ c κs. search needs) (λ c κs. search needs) (λ c. search needs)
+    add-at-group-2
+    (λ c κs. search needs)
+    returns)

@@ -6,15 +6,17 @@ use Rattle.jobs.proofs.asking.unused_zero.Tie as tie
 returns : tie.Need-returns
 unfolding unusedZero
 returns c =
-    let counts = c .before .before .before .before .before .before .before in
+    let parts = c .before .before in
+    let counts = parts .before .before .before .before .before .before in
     rw (
-      c .before .before .before .before .zero-words .ensures,
-      c .before .before .before .zero-words2 .ensures,
-      c .before .before .zero-words3 .ensures,
-      c .before .zero-halves .ensures,
+      parts .before .before .before .zero-words .ensures,
+      parts .before .before .zero-words2 .ensures,
+      parts .before .zero-words3 .ensures,
+      parts .zero-halves .ensures,
       c .zero-words4 .ensures,
-      c .before .before .before .before .before .before .blocks-for .ensures,
-      c .before .before .before .before .before .blocks-for2 .ensures,
+      c .before .first-code .ensures,
+      parts .before .before .before .before .before .blocks-for .ensures,
+      parts .before .before .before .before .blocks-for2 .ensures,
       counts .code-payload .ensures,
       counts .before .before .before .word .ensures,
       counts .before .before .word2 .ensures,
@@ -27,6 +29,6 @@ unused-zero-spec =
     (tie.spec
     (λ c κs. search needs) (λ c κs. search needs) (λ c κs. search needs) (λ c κs. search needs) (λ c κs. search needs)
     (λ c κs. search needs) (λ c. search needs) (λ c κs. search needs) (λ c. search needs) (λ c κs. search needs)
-    (λ c κs. search needs) (λ c. search needs) (λ c. search needs) (λ c κs. search needs) (λ c. search needs)
-    (λ c. search needs) (λ c κs. search needs)
+    (λ c κs. search needs) (λ c. search needs) (λ c. search needs) (λ c κs. search needs) (λ c κs. search needs)
+    (λ c. search needs) (λ c. search needs) (λ c κs. search needs)
     returns)

@@ -1,5 +1,5 @@
 use Rattle.jobs.proofs.Asked.{yes-sized}
-use Rattle.jobs.specs.Reading.{readBy, readTo}
+use Rattle.jobs.specs.Working.Reading.{readBy, readTo}
 use Rattle.jobs.specs.Job.{jobRead}
 use denote.Ref.{now}
 use Rattle.jobs.proofs.reading.accept.Statement.{statement}
@@ -9,7 +9,9 @@ code-in-requires : tie.Need-code-in-requires
 code-in-requires c κs = yes-sized (now (c .before .before .args .bytes)) (c .before .before .pre)
 
 intervals-in-requires : tie.Need-intervals-in-requires
-intervals-in-requires c κs = yes-sized (now (c .before .before .before .before .args .bytes)) (c .before .before .before .before .pre)
+intervals-in-requires c κs =
+    let s = yes-sized (now (c .before .before .before .before .args .bytes)) (c .before .before .before .before .pre) in
+    (s .whole, s .inputs)
 
 memory-in-requires : tie.Need-memory-in-requires
 memory-in-requires c κs = yes-sized (now (c .before .before .before .before .before .args .bytes)) (c .before .before .before .before .before .pre)

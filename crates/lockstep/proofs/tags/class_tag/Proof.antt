@@ -1,5 +1,5 @@
 use Rattle.listing.specs.declared.Sorting.{Sorting}
-use Rattle.corners.specs.Tags.{tagBy, classTag}
+use Rattle.corners.specs.Working.Tags.{tagBy, classTag}
 use denote.Ref.{now}
 use mathlib.Core.Path.{ap, _∙_}
 use borrow.Author.Needs.{needs}

@@ -1,11 +1,11 @@
 use denote.Ref.{now}
 use mathlib.Core.Path.{refl}
-use Rattle.riscu.proofs.Signs.{held-is}
-use Rattle.lockstep.specs.Together.{tagged}
+use Rattle.words.proofs.Signs.{held-is}
+use Rattle.lockstep.specs.Working.LockStep.{tagged}
 use borrow.Author.Needs.{needs}
 use Rattle.lockstep.proofs.tags.mark.Statement.{statement}
 use Rattle.lockstep.proofs.tags.mark.Tie as tie
-use Rattle.corners.specs.Tags.{tagStep}
+use Rattle.corners.specs.Working.Tags.{tagStep}
 
 returns : tie.Need-returns
 unfolding tagStep

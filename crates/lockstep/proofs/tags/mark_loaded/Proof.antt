@@ -3,7 +3,7 @@ use Prim.Native.Nat.{ℕ, _/_}
 use denote.Ref.{now}
 use lib.ListN.{getD}
 use Rattle.riscu.specs.Machine.{putIn}
-use Rattle.riscu.proofs.Signs.{offset-held}
+use Rattle.words.proofs.Signs.{offset-held}
 use borrow.Author.Needs.{needs}
 use Rattle.lockstep.proofs.tags.mark_loaded.Statement.{statement}
 use Rattle.lockstep.proofs.tags.mark_loaded.Tie as tie

@@ -3,11 +3,11 @@ use Prim.Native.Nat.{_/_}
 use denote.Ref.{now}
 use lib.ListN.{length, set}
 use borrow.Author.Tests.{lt-ltb, le-ltb}
-use Rattle.lockstep.specs.Together.{tagged}
+use Rattle.lockstep.specs.Working.LockStep.{tagged}
 use borrow.Author.Needs.{needs}
 use Rattle.lockstep.proofs.tags.mark_read.Statement.{statement}
 use Rattle.lockstep.proofs.tags.mark_read.Tie as tie
-use Rattle.corners.specs.Tags.{tagStep}
+use Rattle.corners.specs.Working.Tags.{tagStep}
 
 returns : tie.Need-returns
 unfolding tagStep

@@ -2,7 +2,7 @@ use mathlib.Core.Path.{_∙_}
 use Prim.Native.Nat.{_/_}
 use denote.Ref.{now}
 use lib.ListN.{getD, set}
-use Rattle.riscu.proofs.Signs.{offset-held}
+use Rattle.words.proofs.Signs.{offset-held}
 use borrow.Author.Needs.{needs}
 use Rattle.lockstep.proofs.tags.mark_stored.Statement.{statement}
 use Rattle.lockstep.proofs.tags.mark_stored.Tie as tie

@@ -1,6 +1,6 @@
 use Rattle.listing.proofs.Matches.{by-case}
 use Rattle.listing.specs.declared.Sorting.{Sorting}
-use Rattle.corners.specs.Tags.{tagBy}
+use Rattle.corners.specs.Working.Tags.{tagBy}
 use denote.Ref.{now}
 use mathlib.Core.Path.{refl}
 use borrow.Author.Needs.{needs}

@@ -1,6 +1,6 @@
 use Rattle.listing.proofs.Matches.{by-case}
 use Rattle.listing.specs.declared.Operand.{Operand}
-use Rattle.corners.specs.Tags.{tagIn}
+use Rattle.corners.specs.Working.Tags.{tagIn}
 use denote.Ref.{now}
 use borrow.Author.Needs.{needs}
 use Rattle.lockstep.proofs.tags.tag_in.Statement.{statement}

@@ -4,7 +4,7 @@ use mathlib.Core.Path.{_∙_}
 use native.Mathlib.Omega.{arith}
 use borrow.Author.Needs.{needs}
 use denote.Ref.{now}
-use Rattle.printing.specs.Output.{output}
+use Rattle.printing.specs.Working.Writing.{output}
 use Rattle.printing.proofs.Digits.{last-digit, only-digit}
 use Prim.Native.Nat.{ℕ, _<_}
 use borrow.Fn.Kinds.{In}

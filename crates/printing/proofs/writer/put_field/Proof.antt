@@ -1,6 +1,6 @@
 use denote.Ref.{now}
 use Rattle.printing.proofs.Outputs.{then}
-use Rattle.printing.specs.Output.{output}
+use Rattle.printing.specs.Working.Writing.{output}
 use Rattle.printing.specs.Printed.{field}
 use borrow.Author.Needs.{needs}
 use Rattle.printing.proofs.writer.put_field.Statement.{statement}

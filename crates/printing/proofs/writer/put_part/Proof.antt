@@ -6,7 +6,7 @@ use native.Mathlib.Omega.{arith}
 use borrow.Author.Needs.{needs}
 use denote.Ref.{now}
 use lib.ListN.{length, drop}
-use Rattle.printing.specs.Output.{output, write}
+use Rattle.printing.specs.Working.Writing.{output, write}
 use Rattle.printing.proofs.Outputs.{text-turn, text-done}
 use Rattle.printing.proofs.writer.put_part.Statement.{statement}
 use Rattle.printing.proofs.writer.put_part.Tie as tie

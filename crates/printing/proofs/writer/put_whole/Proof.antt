@@ -6,7 +6,7 @@ use native.Mathlib.Nat.{add-zero, add-assoc}
 use native.Mathlib.Omega.{arith}
 use denote.Ref.{now}
 use lib.ListN.{length, getD, drop, length-set}
-use Rattle.printing.specs.Output.{output, write}
+use Rattle.printing.specs.Working.Writing.{output, write}
 use Rattle.printing.proofs.Outputs.{push-fits, text-turn, text-done}
 use Rattle.printing.proofs.writer.put_whole.Statement.{statement}
 use Rattle.printing.proofs.writer.put_whole.Tie as tie

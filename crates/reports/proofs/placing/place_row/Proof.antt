@@ -7,8 +7,8 @@ use native.Mathlib.Nat.{sub-zero}
 use native.Mathlib.Omega.{arith}
 use borrow.Author.Needs.{needs}
 use Rattle.boxes.specs.Boxes.{from}
-use Rattle.blocks.specs.Report.{recordAt}
-use Rattle.reports.specs.Readable.{recordsOf}
+use Rattle.blocks.specs.Said.{saidAt}
+use Rattle.reports.specs.Readable.{allSaid}
 use Rattle.reports.specs.Placing.{rowAt, placing}
 use Rattle.reports.proofs.Records.{placing-stop, placing-go, placing-end}
 use Rattle.reports.proofs.placing.place_row.Statement.{statement}
@@ -16,7 +16,7 @@ use Rattle.reports.proofs.placing.place_row.Tie as tie
 
 abbrev Inv-loop : tie.InvT-loop
 Inv-loop report inputs rows j n k₀ k =
-    (k ≤ n) × (placing inputs (recordsOf inputs report) (rowAt inputs rows j) ≡ placing inputs (map (recordAt inputs report) (from k (n - k))) (rowAt inputs rows j))
+    (k ≤ n) × (placing (allSaid inputs report) (rowAt inputs rows j) ≡ placing (map (saidAt inputs report) (from k (n - k))) (rowAt inputs rows j))
 
 abbrev μ-loop : tie.MeasureT-loop
 μ-loop report inputs rows j n k₀ k = n - k
@@ -33,15 +33,15 @@ returns : tie.Need-returns Inv-loop μ-loop
 returns c =
     let l = c .before .before .before .before .loop in
     c .record-word .ensures
-    ∙ sym (l .inv .1 ∙ placing-stop _ _ _ (l .k) _ (omega arith) (sym (c .before .before .record-holds .ensures) ∙ c .before .if1 .taken))
+    ∙ sym (l .inv .1 ∙ placing-stop _ _ (l .k) _ (omega arith) (sym (c .before .before .record-holds .ensures) ∙ c .before .if1 .taken))
 
 loop-again : tie.Need-loop-again Inv-loop μ-loop
 loop-again c =
     let l = c .before .before .before .loop in
-    (omega arith, l .inv .1 ∙ placing-go _ _ _ (l .k) _ (omega arith) (sym (c .before .record-holds .ensures) ∙ c .if1 .left))
+    (omega arith, l .inv .1 ∙ placing-go _ _ (l .k) _ (omega arith) (sym (c .before .record-holds .ensures) ∙ c .if1 .left))
 
 returns-2 : tie.Need-returns-2 Inv-loop μ-loop
-returns-2 c = sym (c .before .loop .inv .1 ∙ placing-end _ _ _ (c .before .loop .k) _ (omega arith))
+returns-2 c = sym (c .before .loop .inv .1 ∙ placing-end _ _ (c .before .loop .k) _ (omega arith))
 
 pub place-row-spec : {M : Type 1} → statement M
 place-row-spec =

@@ -1,6 +1,6 @@
 use Rattle.runs.proofs.Steps.{one-more}
 use Rattle.riscu.specs.Machine.{run}
-use Rattle.riscu.specs.Parts.{state}
+use Rattle.riscu.specs.Working.Parts.{state}
 use denote.Ref.{now}
 use native.Mathlib.Omega.{arith}
 use Prim.Native.Nat.{zero-le, _-_, _≤_}

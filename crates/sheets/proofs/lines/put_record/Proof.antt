@@ -1,14 +1,13 @@
 -- `sheets::lines::put_record` meets its contract: the path's line, and then those of its inputs.
 -- Assumes nothing.
-use mathlib.Core.Path.{_∙_}
+use mathlib.Core.Path.{ap, _∙_}
 use native.Mathlib.Omega.{arith}
 use borrow.Author.Needs.{needs}
 use denote.Ref.{now}
-use Rattle.blocks.specs.Report.{recordAt}
-use Rattle.printing.specs.Output.{output}
+use Rattle.blocks.specs.Said.{saidAt}
+use Rattle.printing.specs.Working.Writing.{output, write}
 use Rattle.printing.proofs.Outputs.{then}
-use Rattle.sheets.specs.Sheet.{pathLine, inputLines, recordLines}
-use Rattle.sheets.proofs.Told.{path-written}
+use Rattle.sheets.proofs.Told.{path-is}
 use Rattle.sheets.proofs.lines.put_record.Statement.{statement}
 use Rattle.sheets.proofs.lines.put_record.Tie as tie
 
@@ -16,15 +15,12 @@ same-length : tie.Need-same-length
 same-length c = c .before .before .put-inputs .kept .1 .1 .1 .0 ∙ c .before .before .before .before .before .before .put-sheet-line .kept .0
 
 returns : tie.Need-returns
-unfolding recordLines
 returns c =
     let words = c .before .before .before .before .before .before .before .before in
     let a = words .before .before .before .before .before .args in
     let s = output (now (a .out)) (a .at) in
-    let bytes = recordAt (a .inputs) (now (a .report)) (a .k) in
-    then s (pathLine bytes) (inputLines (a .inputs) bytes)
-    (path-written s bytes (words .before .before .record-word .ensures) (words .before .record-word2 .ensures) (words .record-word3 .ensures) (c .before .before .before .before .before .before .put-sheet-line .ensures))
-    (c .before .before .put-inputs .ensures)
+    then s _ _ (c .before .before .before .before .before .before .put-sheet-line .ensures) (c .before .before .put-inputs .ensures)
+    ∙ ap (write s) (path-is (saidAt (a .inputs) (now (a .report)) (a .k)) (words .before .before .record-word .ensures) (words .before .record-word2 .ensures) (words .record-word3 .ensures))
 
 pub put-record-spec : {M : Type 1} → statement M
 put-record-spec =

@@ -1,6 +1,6 @@
 -- `sheets::lines::put_sheet` meets its contract: record by record.
 -- Assumes nothing.
-use mathlib.Core.Path.{_≡_, refl, _∙_}
+use mathlib.Core.Path.{_≡_, refl, sym, ap, _∙_}
 use mathlib.Core.List.{flatMap}
 use Prim.Native.Nat.{zero-le, _-_, _≤_}
 use native.Mathlib.Nat.{sub-zero}
@@ -9,10 +9,12 @@ use borrow.Author.Needs.{needs}
 use denote.Ref.{now}
 use lib.ListN.{length}
 use Rattle.boxes.specs.Boxes.{from}
-use Rattle.printing.specs.Output.{output, write}
-use Rattle.printing.proofs.Outputs.{part-turn, part-done, write-all}
-use Rattle.sheets.specs.Sheet.{sheetText}
-use Rattle.sheets.proofs.Told.{linesAt, text-is}
+use Rattle.printing.specs.Working.Writing.{output, write}
+use Rattle.printing.proofs.Outputs.{flat-map, part-turn, part-done, write-all}
+use Rattle.blocks.specs.Report.{recordsIn}
+use Rattle.blocks.specs.Said.{saidAt}
+use Rattle.sheets.specs.Sheet.{pathLines, sheetText}
+use Rattle.sheets.proofs.Told.{linesAt}
 use Rattle.sheets.proofs.lines.put_sheet.Statement.{statement}
 use Rattle.sheets.proofs.lines.put_sheet.Tie as tie
 
@@ -24,7 +26,10 @@ abbrev μ-loop : tie.MeasureT-loop
 μ-loop report inputs out₀ n p₀ k₀ out p k = n - k
 
 loop-holds : tie.Need-loop-holds Inv-loop μ-loop
-loop-holds c = (zero-le, refl, rw (sub-zero, text-is _ _, c .records-in .ensures))
+loop-holds c =
+    let a = c .before .before .before .args in
+    let n = recordsIn (a .inputs) (now (a .report)) in
+    (zero-le, refl, rw (sub-zero, c .records-in .ensures) (ap (write _) (sym (flat-map pathLines (saidAt (a .inputs) (now (a .report))) (from 0 n)))))
 
 put-record-requires : tie.Need-put-record-requires Inv-loop μ-loop
 put-record-requires c κs = (omega (arith, c .before .before .before .records-in .ensures), c .before .before .before .before .before .before .pre)
@@ -44,7 +49,7 @@ returns c =
     let l = c .before .loop in
     let a = c .before .before .before .before .before .args in
     let done = part-done (linesAt (a .inputs) (now (a .report))) (output (l .out) (l .p)) (c .before .before .records-in .result) (l .k) (omega arith) in
-    write-all (sheetText (a .inputs) (now (a .report))) (now (a .out)) (done ∙ l .inv .2) .0
+    write-all (sheetText (a .inputs) (now (a .report))) (now (a .out)) (done ∙ l .inv .2)
 
 pub put-sheet-spec : {M : Type 1} → statement M
 put-sheet-spec =

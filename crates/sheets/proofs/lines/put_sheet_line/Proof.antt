@@ -3,7 +3,7 @@
 use mathlib.Core.Path.{_∙_, ap}
 use borrow.Author.Needs.{needs}
 use denote.Ref.{now}
-use Rattle.printing.specs.Output.{output, write}
+use Rattle.printing.specs.Working.Writing.{output, write}
 use Rattle.sheets.proofs.Columns.{line-set}
 use Rattle.sheets.proofs.lines.put_sheet_line.Statement.{statement}
 use Rattle.sheets.proofs.lines.put_sheet_line.Tie as tie

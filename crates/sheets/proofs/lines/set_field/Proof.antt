@@ -4,7 +4,7 @@ use mathlib.Core.Path.{_≡_, refl, _∙_}
 use Prim.Native.Nat.{_+_, _-_, _^_, _<_, _≤_}
 use native.Mathlib.Omega.{arith}
 use lib.ListN.{length, length-set}
-use Rattle.blocks.specs.Writing.{put}
+use Rattle.blocks.specs.Working.Writing.{put}
 use Rattle.printing.specs.Printed.{digits}
 use Rattle.printing.proofs.Digits.{digits-length, one-digit, tenth-digits}
 use Rattle.sheets.specs.Line.{fieldColumns}

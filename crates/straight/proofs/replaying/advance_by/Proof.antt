@@ -1,4 +1,4 @@
-use Rattle.lockstep.specs.Together.{advancedBy}
+use Rattle.lockstep.specs.Working.LockStep.{advancedBy}
 use borrow.Author.Needs.{needs}
 use Rattle.straight.proofs.replaying.advance_by.Statement.{statement}
 use Rattle.straight.proofs.replaying.advance_by.Tie as tie

@@ -1,4 +1,4 @@
-use Rattle.lockstep.specs.Together.{advancedBy}
+use Rattle.lockstep.specs.Working.LockStep.{advancedBy}
 use Rattle.riscu.specs.Decode.{decodeOf}
 use Rattle.riscu.specs.Machine.{fetch}
 use borrow.Author.Tests.{eq-eqb, ne-eqb, lt-ltb, le-ltb}

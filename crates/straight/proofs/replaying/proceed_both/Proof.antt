@@ -1,4 +1,4 @@
-use Rattle.lockstep.specs.Together.{machines, both, together}
+use Rattle.lockstep.specs.Working.LockStep.{machines, both, lockSteps}
 use native.Mathlib.Omega.{arith}
 use Prim.Native.Nat.{zero-le, _-_, _≤_}
 use mathlib.Core.Path.{_≡_, refl}
@@ -9,13 +9,13 @@ use Rattle.straight.proofs.replaying.proceed_both.Tie as tie
 abbrev Inv-loop : tie.InvT-loop
 Inv-loop code n low₀ lowmem₀ high₀ highmem₀ tags₀ tagmem₀ lows highs at₀ k₀ low lowmem high highmem tags tagmem at k =
     let p = both at₀ (machines low₀ lowmem₀ high₀ highmem₀ tags₀ tagmem₀) in
-    (k ≤ n) × (both at (machines low lowmem high highmem tags tagmem) ≡ together lows highs code k p)
+    (k ≤ n) × (both at (machines low lowmem high highmem tags tagmem) ≡ lockSteps lows highs code k p)
 
 abbrev μ-loop : tie.MeasureT-loop
 μ-loop code n low₀ lowmem₀ high₀ highmem₀ tags₀ tagmem₀ lows highs at₀ k₀ low lowmem high highmem tags tagmem at k = n - k
 
 loop-holds : tie.Need-loop-holds Inv-loop μ-loop
-unfolding together
+unfolding lockSteps
 loop-holds c = (zero-le, refl)
 
 loop-again : tie.Need-loop-again Inv-loop μ-loop

@@ -1,4 +1,4 @@
-use Rattle.lockstep.specs.Together.{pair, together, starting}
+use Rattle.lockstep.specs.Working.LockStep.{pair, lockSteps, starting}
 use denote.Ref.{now}
 use mathlib.Core.Path.{_∙_}
 use borrow.Author.Needs.{needs}
@@ -13,7 +13,7 @@ returns c =
     let l = h .before .before .before in
     let a = l .before .before .before .before .before .before .args in
     c .proceed-both .ensures
-    ∙ (λ j. together (now (a .lows)) (now (a .highs)) (now (a .code)) (a .n) (pair (l .begin .ensures j) (h .begin2 .ensures j) (t .clear .ensures j)))
+    ∙ (λ j. lockSteps (now (a .lows)) (now (a .highs)) (now (a .code)) (a .n) (pair (l .begin .ensures j) (h .begin2 .ensures j) (t .clear .ensures j)))
 
 pub replay-spec : {M : Type 1} → statement M
 replay-spec =

@@ -1,7 +1,7 @@
 use Rattle.straight.proofs.Taking.{goes}
 use Rattle.listing.specs.Ending.{writes}
-use Rattle.corners.specs.Tags.{tagStep}
-use Rattle.lockstep.specs.Together.{tagged, pair}
+use Rattle.corners.specs.Working.Tags.{tagStep}
+use Rattle.lockstep.specs.Working.LockStep.{tagged, pair}
 use Rattle.riscu.specs.declared.Instruction.the-variants.{Register}
 use mathlib.Core.Path.{sym, _∙_}
 use borrow.Author.Needs.{needs}

@@ -1,11 +1,11 @@
 use Rattle.straight.proofs.Taking.{goes}
 use Rattle.listing.specs.Group.{sortingOf, classBy, classOf}
 use Rattle.listing.specs.Ending.{operandPoints, addressPoints, points, writes}
-use Rattle.decide.specs.Corner.{verdict}
-use Rattle.corners.specs.Tags.{tagStep}
-use Rattle.lockstep.specs.Together.{tagged, pair}
+use Rattle.decide.specs.Working.Corner.{verdict}
+use Rattle.corners.specs.Working.Tags.{tagStep}
+use Rattle.lockstep.specs.Working.LockStep.{tagged, pair}
 use Rattle.riscu.specs.declared.Instruction.the-variants.{Sd}
-use Rattle.riscu.proofs.Signs.{held, held-is}
+use Rattle.words.proofs.Signs.{held, held-is}
 use denote.Ref.{now}
 use mathlib.Core.Path.{refl, sym, _∙_}
 use borrow.Author.Needs.{needs}

@@ -1,7 +1,7 @@
 use Rattle.straight.proofs.Entries.{decided-within}
 use Rattle.straight.proofs.Onward.{runs-left}
-use Rattle.straight.specs.Stepped.{place, StraightRun, none, more}
-use Rattle.lockstep.specs.Together.{machines}
+use Rattle.straight.specs.Working.Stepped.{place, StraightRun, none, more}
+use Rattle.lockstep.specs.Working.LockStep.{machines}
 use Prim.Native.Nat.{_-_}
 use native.Mathlib.Omega.{arith}
 use borrow.Author.Needs.{needs}

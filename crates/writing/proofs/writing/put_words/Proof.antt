@@ -8,7 +8,7 @@ use borrow.Author.Needs.{needs}
 use denote.Ref.{now}
 use lib.ListN.{take, drop}
 use Rattle.blocks.specs.Block.{payloadWords, block}
-use Rattle.blocks.specs.Writing.{put}
+use Rattle.blocks.specs.Working.Writing.{put}
 use Rattle.writing.proofs.Parts.{rest-words}
 use Rattle.writing.proofs.writing.put_words.Statement.{statement}
 use Rattle.writing.proofs.writing.put_words.Tie as tie

@@ -12,7 +12,7 @@ use lib.ListN.{length}
 use lib.Seq.{length-take-le}
 use Rattle.blocks.specs.Block.{blockBytes}
 use Rattle.jobs.specs.Job.{JobRead, blocksNeeded}
-use Rattle.writing.specs.Form.{givenOf, formLength}
+use Rattle.writing.specs.Form.{givenOf, inputsOf, formLength}
 use Rattle.writing.specs.Write.{valuesOf, writeCallOf}
 use Rattle.writing.proofs.Given.{given-few}
 use Rattle.writing.proofs.Made.{job-at-start, passed-values, has-room}
@@ -36,7 +36,7 @@ blocks-needed-requires c κs =
     (omega (arith, code-size (values c) yes), omega (arith, counted c, given-few (values c .memory), memory-size (values c) yes))
 
 length-known : (c : tie.After-blocks-needed) → blockBytes * c .blocks-needed .result ≡ formLength (values (c .before))
-length-known c = ap (λ (n : ℕ). blockBytes * n) (c .blocks-needed .ensures ∙ ap (blocksNeeded (length (values (c .before) .code))) (counted (c .before)))
+length-known c = ap (λ (n : ℕ). blockBytes * n) (c .blocks-needed .ensures ∙ ap (blocksNeeded (inputsOf (values (c .before))) (length (values (c .before) .code))) (counted (c .before)))
 
 -- the space that is lent
 abbrev space : tie.After-blocks-needed → List ℕ

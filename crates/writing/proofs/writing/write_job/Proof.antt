@@ -2,7 +2,7 @@
 -- Assumes nothing.
 use mathlib.Core.Path.{sym, ap, _∙_}
 use borrow.Author.Needs.{needs}
-use Rattle.calls.specs.Border.{refusalIn}
+use Rattle.calls.specs.Working.Asking.{refusalIn}
 use Rattle.writing.proofs.Promises.{value-refused}
 use Rattle.writing.proofs.writing.write_job.Statement.{statement}
 use Rattle.writing.proofs.writing.write_job.Tie as tie
