@@ -6,7 +6,7 @@ use native.Mathlib.Numerals.{unary_clauses}
 use native.Mathlib.Nat.{zero-sub}
 use lib.ListN.{length-replicate, length-map, get_or-append}
 use lib.Seq.{sets, sets-eq, drop-append-le, drop-append-add}
-use Rattle.boxes.specs.Boxes.{◌⋯◌, lows, highs}
+use Rattle.boxes.specs.Boxes.{◌⋯◌}
 use Rattle.boxes.specs.Working.Cuts.{box_in}
 use Rattle.boxes.proofs.TwoLists.{lows_in, highs_in, length_in, at_in}
 use Rattle.listing.specs.Listing.{Path}

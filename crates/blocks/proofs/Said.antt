@@ -1,6 +1,6 @@
 -- What the reader of a record finds is what the path says.
 -- Assumes nothing.
-use Rattle.std.proofs.Common.{◌≡◌, ℕ, zero, suc, ◌+◌, ◌<◌, ◌≤◌, List, [], ◌∷◌, ◌++◌, map, length, refl, ◌∙◌, append_assoc, zero-add, arith, ext_get_or}
+use Rattle.std.proofs.Common.{◌≡◌, ℕ, zero, suc, ◌+◌, ◌<◌, ◌≤◌, List, [], ◌∷◌, ◌++◌, map, length, refl, ap, ◌∙◌, append_assoc, zero-add, arith, ext_get_or}
 use mathlib.Core.List.Memᴰ.{head as here}
 use mathlib.Core.List.Memᴰ.{tail as there}
 use lib.ListN.{length-map}
@@ -11,7 +11,7 @@ use Rattle.listing.specs.Listing.{Path}
 use Rattle.blocks.specs.Layout.{input_places, low_at, high_at}
 use Rattle.blocks.specs.Reading.{Tells}
 use Rattle.blocks.specs.Record.{most_inputs, record_words, record_bytes, record_of, records}
-use Rattle.blocks.specs.Said.{input_in, said_in, said_at, first_said, said_of, said_of_all}
+use Rattle.blocks.specs.Said.{Said, input_in, said_in, said_at, first_said, said_of, said_of_all}
 use Rattle.blocks.proofs.Reading.{Fits, record_length, record_tells}
 use Rattle.blocks.proofs.Records.{record_first, record_behind}
 
@@ -72,6 +72,8 @@ all_told m top rest n (p ∷ ps) l f e =
       append_assoc (record_of n p) (records (n + 1) ps) rest,
       record_first m (record_of n p) (records (n + 1) ps ++ rest) size,
       told,
-      behind m (record_of n p) (records (n + 1) ps ++ rest) size 0 (length ps),
-      all_told m top rest (n + 1) ps (omega arith) (λ q i. f q (there i)) (λ q i. e q (there i)),
     )
+    (ap (λ (t : List Said). said_of n p ∷ t)
+    (ap (λ (r : List ℕ). map (said_at m r) (from 1 (length ps))) (append_assoc (record_of n p) (records (n + 1) ps) rest)
+    ∙ behind m (record_of n p) (records (n + 1) ps ++ rest) size 0 (length ps)
+    ∙ all_told m top rest (n + 1) ps (omega arith) (λ q i. f q (there i)) (λ q i. e q (there i))))

@@ -14,7 +14,7 @@ use crate::{BLOCK_BYTES, PAYLOAD_WORDS};
 use listing::{End, kind_number, reason_word};
 
 // An ended path, but for its inputs and registers, which come beside it.
-#[derive(Drop)]
+#[derive(Clone, Copy)]
 pub struct Ended {
     pub number: u64,
     pub end: End,

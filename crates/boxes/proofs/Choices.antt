@@ -69,8 +69,10 @@ unfolding choices values width from flat_map
 choices_first [] p = ([], refl)
 choices_first (v ∷ b) p =
     let e : suc v.high - v.low ≡ suc (v.high - v.low) = omega arith in
-    let (r, q) = choices_first b p.1 in
-    (prefixed r v.low ++ flat_map (prefixed (choices b)) (from (suc v.low) (v.high - v.low)), rw (e, q))
+    let (r, q) = choices_first b p.1 in (
+      prefixed r v.low ++ flat_map (prefixed (choices b)) (from (suc v.low) (v.high - v.low)),
+      rw e (ap (λ (l : List Choice). prefixed l v.low ++ flat_map (prefixed (choices b)) (from (suc v.low) (v.high - v.low))) q),
+    )
 
 -- inside, input by input
 

@@ -1,6 +1,8 @@
 // A call of the explorer: what is lent, the questions, what the call leaves, and the demands as statements about every
 // engine whose calls leave that. What a reader must believe stands in specs/ outside Working/; the crate `demands` proves the statements.
 // The code is the answer with its numbers, and `questions`, which asks the questions.
+#![tactic(auto)]
+
 ghost use Rattle.std.specs.Prelude.{◌≡◌};
 ghost use Rattle.calls.specs.Questions.{number};
 ghost use Rattle.calls.specs.Border.{refused_number, yes_number, reply_of};
@@ -10,7 +12,7 @@ pub mod questions;
 
 // Why a call is refused: every cause of the papers. 1 to 8 are asked of an exploration, 9 to 11 of a job in blocks, 12 and 13 of a
 // report and of rows, 14 of a space to write, 15 and 16 of a job whose choices are counted.
-#[derive(Drop)]
+#[derive(Clone, Copy)]
 pub enum Refusal {
     Code,
     Inputs,
@@ -31,21 +33,21 @@ pub enum Refusal {
 }
 
 // What the questions come to: none is answered no, or the first that is.
-#[derive(Drop)]
+#[derive(Clone, Copy)]
 pub enum Questioned {
     AllYes,
     No(Refusal),
 }
 
 // What an exploration answers.
-#[derive(Drop)]
+#[derive(Clone, Copy)]
 pub enum Answer {
     Refused(Refusal),
     Page { count: u64, more: bool },
 }
 
 // What a call answers that is done or refused: how much was done.
-#[derive(Drop)]
+#[derive(Clone, Copy)]
 pub enum Completion {
     Refused(Refusal),
     Done(u64),
@@ -53,7 +55,7 @@ pub enum Completion {
 
 // An answer in numbers, for the C border: the refusal's number or 0, the paths written, and 1 if a further path exists.
 #[repr(C)]
-#[derive(Drop)]
+#[derive(Clone, Copy)]
 pub struct Outcome {
     pub refused: u64,
     pub count: u64,

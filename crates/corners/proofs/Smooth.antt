@@ -1,6 +1,6 @@
 -- Smooth steps: no choice of the box is stopped (points 2 to 9 of the ending order), and all have one class.
 -- Assumes nothing.
-use mathlib.Core.Logic.{◌⊎◌, inl, inr, ⊎_elim}
+use mathlib.Core.Logic.{inl, inr, ⊎_elim}
 use mathlib.Core.Option.{Option, none, some}
 use Prim.Native.Nat.{ℕ}
 use Rattle.boxes.specs.Boxes.{Choice, Box, Within}

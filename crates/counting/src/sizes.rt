@@ -12,7 +12,7 @@ use blocks::report::{input_high, input_low};
 use words::MAX;
 
 // A size that is a word, or one that is too large for a word.
-#[derive(Drop)]
+#[derive(Clone, Copy)]
 pub(crate) enum BoxSize {
     Fits(u64),
     Over,

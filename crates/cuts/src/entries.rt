@@ -21,7 +21,7 @@ const USED: usize = 5;
 const SPENT: usize = 6;
 
 // A fork as the table holds it.
-#[derive(Drop)]
+#[derive(Clone, Copy)]
 pub struct Entry {
     pub input: usize,
     pub low: u64,

@@ -15,7 +15,7 @@ use riscu::{At, Instruction};
 use runs::running::run;
 
 // The part of a box below its cut: where it ends, and where the machine at its high corner is.
-#[derive(Drop)]
+#[derive(Clone, Copy)]
 pub struct Below {
     pub edge: u64,
     pub high: At,

@@ -8,7 +8,7 @@ use words::{add, product, quotient, sub};
 
 // Where the last value of a class or the next may stand: for an operand that is a quotient or a straight line of the input, and for
 // one that is the input over a whole number or times one, rounded down.
-#[derive(Drop)]
+#[derive(Clone, Copy)]
 pub struct Guesses {
     pub line: u64,
     pub rounded: u64,

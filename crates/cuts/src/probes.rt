@@ -11,7 +11,7 @@ use riscu::{At, Instruction};
 use runs::running::run;
 
 // What the search found: the edge; whether the last probe was at it; and where the machine of that probe is, which is free if not.
-#[derive(Drop)]
+#[derive(Clone, Copy)]
 pub struct Found {
     pub edge: u64,
     pub there: bool,

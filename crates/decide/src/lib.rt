@@ -1,6 +1,8 @@
 // What the two corners of a box decide: tests on words and the class of a step, the ending order from the registers at the lowest
 // inputs and at the highest, and the whole decision for a group: its end, or its instruction, which forks or not.
 // Nothing is required of a caller: on any registers the decision is the definition's.
+#![tactic(auto)]
+
 pub mod classes;
 pub mod group;
 pub mod order;
@@ -9,14 +11,14 @@ use listing::End;
 use riscu::Instruction;
 
 // Whether points 4 to 9 of the ending order end a group.
-#[derive(Drop)]
+#[derive(Clone, Copy)]
 pub enum Verdict {
     Ends(End),
     Passes,
 }
 
 // What becomes of a group: its end, or its instruction, which all choices take alike or which forks.
-#[derive(Drop)]
+#[derive(Clone, Copy)]
 pub enum Decision {
     Ended(End),
     Steps(Instruction),
@@ -24,7 +26,7 @@ pub enum Decision {
 }
 
 // How far a job may go: steps, trace entries, inputs.
-#[derive(Drop)]
+#[derive(Clone, Copy)]
 pub struct Limits {
     pub steps: usize,
     pub entries: usize,
@@ -32,7 +34,7 @@ pub struct Limits {
 }
 
 // What a group has used of it.
-#[derive(Drop)]
+#[derive(Clone, Copy)]
 pub struct Used {
     pub steps: usize,
     pub entries: usize,

@@ -1,6 +1,8 @@
 // Decodes words that the RISC-V assembler made, and compares each with the operands it was made of.
 // Standard input has a word to a line; host/vectors.py makes them, and says what the fields are.
 // Prints each line that differs, and how many words there are.
+#![tactic(auto)]
+
 use riscu::decoder::decode;
 use riscu::{Condition, Decoded, Instruction, Operation};
 use vectors::{differs, line_end, number_at};

@@ -6,7 +6,7 @@ use native.Mathlib.Omega.{arith}
 use native.Mathlib.Decide.{dec_lt}
 use lib.ListN.{length, get_or, drop, get_or-eq_default}
 use lib.Seq.{get_or-drop}
-use Rattle.boxes.specs.Boxes.{Choice, Interval, ◌⋯◌, at, lows, highs, Inside, ◌∈◌}
+use Rattle.boxes.specs.Boxes.{Choice, Interval, ◌⋯◌, lows, highs, Inside, ◌∈◌}
 use Rattle.boxes.proofs.Choices.{inside_at}
 use Rattle.riscu.specs.Machine.{start}
 use Rattle.riscu.proofs.Counters.{run_pc, run_reads}
@@ -83,9 +83,9 @@ append_words (x ∷ xs) ys h g zero = h 0
 append_words (x ∷ xs) ys h g (suc k) = append_words xs ys (λ i. h (suc i)) g k
 
 -- at most 8 of them, padded
-infixr 40 ◌padded-then◌
-◌padded-then◌ : {ws l : List ℕ} → AllWords ws → AllWords l → AllWords (padded ws ++ l)
-◌padded-then◌ {ws} {l} h g =
+infixr 40 ◌padded_then◌
+◌padded_then◌ : {ws l : List ℕ} → AllWords ws → AllWords l → AllWords (padded ws ++ l)
+◌padded_then◌ {ws} {l} h g =
     record { words = append_words (padded ws) l (λ k. rw (get_d_padded ws (first_places - length ws) k) (h.words k)) g.words }
 
 words_ends : (vs : List Interval) → ((i : ℕ) → Small (get_or vs i (0 ⋯ 0))) → AllWords (ends vs)

@@ -1,6 +1,8 @@
 // The call: the questions, and the exploration of a job that passes them.
 // What a call leaves is one equation with the definition of a call: its answer, every byte of the report, the table and memory.
 // Nothing is required of a caller; from the contract of `explore` alone proofs/Demands has the three demands.
+#![tactic(auto)]
+
 ghost use Rattle.calls.specs.Call.{left};
 ghost use Rattle.calls.specs.Border.{call_lent};
 ghost use Rattle.calls.specs.Engine.{Leaves};

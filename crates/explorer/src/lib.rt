@@ -1,6 +1,8 @@
 // The exploration of a job that passes the questions: the turns at the two corners of the current box, from the first group to the page.
 // Each turn is a move of document 01's plain listing with the straight steps before it, or takes up the next rest of the latest fork.
 // What an accepted call leaves is one equation with the definition of a call.
+#![tactic(auto)]
+
 mod branching;
 pub mod exploring;
 mod running;
@@ -14,7 +16,7 @@ ghost use Rattle.explorer.specs.declared.Phase.TheVariants.{AtGroup};
 use lockstep::Corners;
 
 // At a group, between two groups, or stopped, with the answer whether a further path exists.
-#[derive(Drop)]
+#[derive(Clone, Copy)]
 pub enum Phase {
     AtGroup,
     Between,
@@ -23,7 +25,7 @@ pub enum Phase {
 
 // Where an exploration stands: its phase, the numbers of the group, the forks in the table, the paths ended, and where the machines at
 // the corners are.
-#[derive(Drop)]
+#[derive(Clone, Copy)]
 pub struct Standing {
     pub phase: Phase,
     pub steps: usize,

@@ -335,4 +335,5 @@ module _ {j : Job} {n : ℕ} {ps : List Path} {g : Group} {f : Fork} {fs : List 
             over,
             rest_part j c k.good (above a x m) w (proper_above s rest_proper) k.followed,
             u,
-          )))
+          )
+          (ap (λ (n : ℕ). later c (written j c k.instruction + 1) (below a x m) ∷ map (later c (n + 1)) (pieces (class_at j f.steps k.instruction) (above a x m))) u)))

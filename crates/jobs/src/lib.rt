@@ -1,6 +1,8 @@
 // A job in blocks of 512 bytes, as document 01 lays it out; what a reader must believe stands in specs/ outside Working/.
 // `words` finds the words of a job's parts, `asking` asks the questions on it, `reading` copies what an accepted job holds.
 // A refused job changes nothing that is lent.
+#![tactic(auto)]
+
 use calls::Refusal;
 
 mod asking;
@@ -9,7 +11,7 @@ pub mod reading;
 pub mod words;
 
 // The numbers of a job: how many code words and inputs were read, the step limit and the first path.
-#[derive(Drop)]
+#[derive(Clone, Copy)]
 pub struct Counts {
     pub code: u64,
     pub inputs: u64,
@@ -18,7 +20,7 @@ pub struct Counts {
 }
 
 // What the reader answers.
-#[derive(Drop)]
+#[derive(Clone, Copy)]
 pub enum JobAnswer {
     Refused(Refusal),
     Read(Counts),

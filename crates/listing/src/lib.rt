@@ -2,6 +2,8 @@
 // What a reader must believe stands in specs/; the crates `corners` and `paths` have its laws.
 // The code is what an instruction sorts by, and how a path ends: an enum of document 01's kinds, where kind 8 carries its reason, and
 // their numbers.
+#![tactic(auto)]
+
 ghost use Rattle.std.specs.Prelude.{◌≡◌, cond, eqb};
 ghost use Rattle.riscu.specs.declared.Instruction.TheVariants.{Immediate};
 ghost use Rattle.listing.specs.declared.Sorting.TheVariants.{Operates, Nothing};
@@ -13,14 +15,14 @@ use riscu::{Condition, Instruction, Operation};
 use words::widen;
 
 // What an instruction works on: a register, or a number of its own.
-#[derive(Drop)]
+#[derive(Clone, Copy)]
 pub enum Operand {
     InRegister(usize),
     Constant(u64),
 }
 
 // What an instruction sorts the choices by: an operation on two operands, a comparison of two, or nothing.
-#[derive(Drop)]
+#[derive(Clone, Copy)]
 pub enum Sorting {
     Operates {
         op: Operation,
@@ -34,7 +36,7 @@ pub enum Sorting {
     Nothing,
 }
 
-#[derive(Drop)]
+#[derive(Clone, Copy)]
 pub enum Reason {
     BothOpen,
     DivisorOpen,
@@ -43,7 +45,7 @@ pub enum Reason {
     CallOpen,
 }
 
-#[derive(Drop)]
+#[derive(Clone, Copy)]
 pub enum End {
     Exit,
     BadPc,

@@ -1,6 +1,8 @@
 // Runs the RISC-V project's own tests for RISC-U's instructions on the plain machine.
 // Standard input has a case to a line; host/vectors.py makes them, and says what the fields are.
 // Prints each line that differs, how many cases each instruction has, and the sum.
+#![tactic(auto)]
+
 use riscu::At;
 use riscu::plain::{Machine, put, register, store};
 use runs::running::proceed;

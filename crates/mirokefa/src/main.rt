@@ -2,6 +2,8 @@
 // It explores with a table of 8,192 words and a report of 64 paths.
 // All that matters is proved in `serving`; only the system calls are assumed.
 
+#![tactic(auto)]
+
 fn main() {
     let mut input = io::large_buffer();
     let n = io::read_full(0, &mut input);

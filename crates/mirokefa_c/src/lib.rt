@@ -2,6 +2,8 @@
 // length of that, a job's choices counted, a job written, as `extern "C"` with the answer in numbers.
 // Each slice comes as a pointer and its length in elements.
 // The archive of this crate, libmirokefa_c.a, is what include/mirokefa.h declares.
+#![tactic(auto)]
+
 ghost use Rattle.std.specs.Prelude.{◌≡◌};
 ghost use Rattle.calls.specs.Border.{refused_number, reply_of, call_lent, called_on};
 ghost use Rattle.calls.specs.Done.{refusal_from};

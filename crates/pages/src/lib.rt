@@ -1,6 +1,8 @@
 // The page of a call: an ended path's record in its place of the report, where the page begins at or before that path.
 // Each register's interval is the lesser and the greater of its values at the two corners, and the other words are numbers that are given.
 // The contract of `write_path` is one equation for the whole report: the record's bytes are the definition's, and every other byte is as lent.
+#![tactic(auto)]
+
 ghost use Rattle.std.specs.Prelude.{◌≡◌, ◌+◌, ◌-◌, ◌*◌, ◌≤◌, ◌<◌, length};
 ghost use Rattle.riscu.specs.Lent.{lent, returned};
 ghost use Rattle.blocks.specs.Record.{most_inputs, record_bytes};
@@ -14,14 +16,14 @@ use riscu::At;
 use riscu::plain::{Registers, register};
 
 // The numbers of the paths that a page has places for: from the first wanted to below the end.
-#[derive(Drop)]
+#[derive(Clone, Copy)]
 pub struct Window {
     pub first: u64,
     pub end: u64,
 }
 
 // Of each register the lesser and the greater of its values at the two corners.
-#[derive(Drop)]
+#[derive(Clone, Copy)]
 pub struct Extremes {
     pub lesser: Registers,
     pub greater: Registers,

@@ -1,6 +1,8 @@
 // The program's output: `turned away N`, or the listing of a report; what a reader must believe stands in specs/ outside Working/.
 // `writer` writes texts and numbers onto a lent slice, as far as they fit; `lines` writes a record's line from its words.
 // The laws say that the text of a report that tells some paths is what document 01 shows of them, and how long it can be.
+#![tactic(auto)]
+
 ghost use Rattle.std.specs.Prelude.{◌*◌, ◌≤◌, length};
 ghost use Rattle.blocks.specs.Record.{most_inputs, record_bytes};
 ghost use Rattle.printing.specs.Printed.{turned_away, listing_text};

@@ -1,6 +1,8 @@
 // Prints the listing of document 01's Job A from a report of its two paths.
 // The records are written as the explorer writes them.
 // What must come out is document 01's text, byte for byte.
+#![tactic(auto)]
+
 ghost use Rattle.std.specs.Prelude.{◌+◌, ◌≤◌, length};
 ghost use Rattle.blocks.specs.Record.{record_bytes};
 

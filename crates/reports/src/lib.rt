@@ -2,5 +2,7 @@
 // `asking` asks the questions, `placing` finds for each row the first record whose box holds it.
 // What a reader must believe stands in specs/; a call that is refused writes nothing.
 
+#![tactic(auto)]
+
 pub mod asking;
 pub mod placing;

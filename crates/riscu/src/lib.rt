@@ -1,11 +1,13 @@
 // RISC-U: the fourteen instructions of document 01's table, and the machine that runs them.
 // A word is decoded by the table's rows; the plain machine takes one step on one choice of inputs.
 // A contract is an equation with a definition of specs/, where the papers leave nothing free.
+#![tactic(auto)]
+
 pub mod decoder;
 pub mod plain;
 
 // The six operations, on two registers or on a register and an immediate: ADDI is Add with an immediate.
-#[derive(Drop)]
+#[derive(Clone, Copy)]
 pub enum Operation {
     Add,
     Sub,
@@ -16,13 +18,13 @@ pub enum Operation {
 }
 
 // What a branch asks of its two registers.
-#[derive(Drop)]
+#[derive(Clone, Copy)]
 pub enum Condition {
     Equal,
 }
 
 // An instruction by its format, with its operation, its registers and its immediate.
-#[derive(Drop)]
+#[derive(Clone, Copy)]
 pub enum Instruction {
     Lui {
         rd: usize,
@@ -69,14 +71,14 @@ pub enum Instruction {
 }
 
 // What a word holds: a row of the table, or none.
-#[derive(Drop)]
+#[derive(Clone, Copy)]
 pub enum Decoded {
     Row(Instruction),
     NoRow,
 }
 
 // Where a machine is: its pc, and how many inputs it has read.
-#[derive(Drop)]
+#[derive(Clone, Copy)]
 pub struct At {
     pub pc: u64,
     pub reads: usize,

@@ -1,6 +1,8 @@
 // Runs Job A and document 01's rules on trial, in its order, through the exploration, and prints each listing in its form.
 // Below each path stand the inputs read and every register that is not 0 all along, as the two blocks have them.
 // All calls are made on one memory and, but for the case of one entry, on one table.
+#![tactic(auto)]
+
 use blocks::layout::{
     EXIT_HIGH, EXIT_LOW, HIGHS, INPUTS, KIND, LOWS, NUMBER, PC, READS, REASON, STEPS,
 };

@@ -1,6 +1,8 @@
 // The course server's call and the program's answer, on bytes: job blocks in, a report or its text out.
 // Both explore the job with a table of their own; the server's call asks the program's questions and then question 7.
 // What a reader must believe stands in specs/ outside Working/: what a served call leaves, its part in the demands, and the program's text.
+#![tactic(auto)]
+
 ghost use Rattle.std.specs.Prelude.{◌≡◌, ◌*◌, ◌≤◌, length};
 ghost use Rattle.calls.specs.Call.{reply_to};
 ghost use Rattle.printing.specs.Output.{fitted, fitting};

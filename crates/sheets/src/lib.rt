@@ -2,6 +2,8 @@
 // `asking` has the sheet's length and the questions 12 and 14, `lines` writes the lines from the records' words, `sheet` has the call.
 // What a reader must believe stands in specs/; a call that is refused writes nothing.
 
+#![tactic(auto)]
+
 pub mod asking;
 mod lines;
 pub mod sheet;

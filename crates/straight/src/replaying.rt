@@ -73,7 +73,7 @@ fn advance_next(
 }
 
 // Where both corners are after so many steps.
-#[derive(Drop)]
+#[derive(Clone, Copy)]
 pub struct Advanced {
     pub steps: usize,
     pub at: Corners,

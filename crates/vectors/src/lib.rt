@@ -1,6 +1,8 @@
 // Test vectors as text: lines of hex numbers, with one byte between two numbers.
 // The programs that run a table of tests read it by this crate, and tell by it which lines differ.
 // Every text is read: past its end there is no digit, and a number of no digits is 0.
+#![tactic(auto)]
+
 ghost use Rattle.std.specs.Prelude.{◌≡◌, cond, drop};
 ghost use Rattle.vectors.specs.Working.Text.{digit_of, number_from, Ends};
 

@@ -9,7 +9,7 @@ abbrev pub held : ℤ → ℤ
 held z = to_z w64 (of_z w64 z)
 
 pub held_is : (z : ℤ) → mag z < 2 ^ 63 → held z ≡ z
-held_is z h = to_z-of_z (record { sfits = h })
+held_is z h = to_z-of_z {w = w64} (record { sfits = h })
 
 -- the word of a number that was held on the way
 pub widen_held : {z : ℤ} {k : ℕ} → SFits w64 z → k ≡ widen (held z) → k ≡ widen z

@@ -1,4 +1,6 @@
 // Machine words: wrapping sums and differences, products, quotients, and two's complement of any width.
+#![tactic(auto)]
+
 pub mod power_table;
 
 ghost use Rattle.std.specs.Prelude.{◌≡◌, ◌+◌, ◌-◌, ◌*◌, ◌/◌, ◌%◌, ◌^◌, ◌<◌, ◌≤◌, if◌then◌else◌, nat_eq, nat_lt};
@@ -8,7 +10,7 @@ ghost use Rattle.words.specs.Word.{size, word, signed, widen};
 pub const MAX: u64 = 18446744073709551615;
 
 // The 128 bits of a product.
-#[derive(Drop)]
+#[derive(Clone, Copy)]
 pub struct Halves {
     pub low: u64,
     pub high: u64,
