@@ -5,8 +5,12 @@
 
 use riscu::decoder::decode;
 use riscu::{Condition, Decoded, Instruction, Operation};
-use vectors::{differs, line_end, number_at};
+use std::io;
+use vectors::{differs, line_end, number_at, read_full};
 use words::widen;
+
+// How many bytes of input there is room for, and one more.
+const ROOM: usize = 65536;
 
 // The row of document 01's table, from 0, or 14 for none; a field that the row lacks is 0.
 #[derive(Drop)]
@@ -90,32 +94,29 @@ fn agrees(line: &[u8]) -> bool {
         & (p.imm == imm.value)
 }
 
-fn print_sum(words: u64, differ: u64) {
-    io::print_decimal(1, words);
-    io::write_all(1, b" words, ");
-    io::print_decimal(1, differ);
-    io::write_all(1, b" differ\n");
+fn print_sum(rt: &impl Print, words: u64, differ: u64) -> io::Result<()> {
+    println!(rt; "{words} words, {differ} differ")
 }
 
-fn run_all(text: &[u8]) {
+fn run_all(rt: &impl Print, text: &[u8]) -> io::Result<()> {
     let mut words: u64 = 0;
     let mut differ: u64 = 0;
     let mut at: usize = 0;
     while at < text.len() {
         let end = line_end(text, at);
         words += 1;
-        differ += differs(agrees(&text[at..end]), words);
+        differ += differs(rt, agrees(&text[at..end]), words)?;
         at = if end < text.len() { end + 1 } else { end };
     }
-    print_sum(words, differ);
+    print_sum(rt, words, differ)
 }
 
-fn main() {
-    let mut buffer = io::large_buffer();
-    let n = io::read_full(0, &mut buffer);
-    if n == 65536 {
-        io::write_all(1, b"more input than the buffer holds\n");
-        return;
+// A read or a write that fails ends it with that error.
+fn main(rt: HostRuntime) -> io::Result<()> {
+    let mut buffer = [0u8; ROOM];
+    let n = read_full(&mut rt.stdin(), &mut buffer)?;
+    if n == ROOM {
+        return println!(rt; "more input than the buffer holds");
     }
-    run_all(&buffer[..n]);
+    run_all(&rt, &buffer[..n])
 }

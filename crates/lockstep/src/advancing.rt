@@ -1,6 +1,5 @@
 // Both machines take the low one's instruction, and the tags move with them.
 ghost use Rattle.std.specs.Prelude.{◌≡◌};
-ghost use Rattle.riscu.specs.Lent.{lent};
 ghost use Rattle.riscu.specs.declared.Instruction.TheVariants.{Ecall};
 ghost use Rattle.lockstep.specs.Working.LockStep.{both, lent_machines, advanced};
 
@@ -23,7 +22,7 @@ pub fn advance(
     at: Corners,
 ) -> Corners
     ensures { let m = lent_machines low lowmem high highmem tags tagmem in
-        both result m.after ≡ advanced (lent lows) (lent highs) i (both at m.before) }
+        both result m.after ≡ advanced lows.now highs.now i (both at m.before) }
 {
     let l = at.low;
     let h = at.high;
@@ -46,7 +45,7 @@ pub fn advance_read(
     at: Corners,
 ) -> Corners
     ensures { let m = lent_machines low lowmem high highmem tags tagmem in
-        both result m.after ≡ advanced (lent lows) (lent highs) Ecall (both at m.before) }
+        both result m.after ≡ advanced lows.now highs.now Ecall (both at m.before) }
 {
     let l = at.low;
     let h = at.high;

@@ -1,6 +1,5 @@
 // The tags, as an instruction moves them.
 ghost use Rattle.std.specs.Prelude.{◌≡◌, ◌+◌, ◌/◌, get_or, set, replicate};
-ghost use Rattle.riscu.specs.Lent.{lent, returned};
 ghost use Rattle.riscu.specs.Limits.{memory_words};
 ghost use Rattle.words.specs.Word.{word, widen};
 ghost use Rattle.riscu.specs.Machine.{put_in};
@@ -118,9 +117,9 @@ pub(crate) fn mark_read(
     tagmem: &mut Memory,
     at: At,
 )
-    ensures { let t = tagged (lent tags) (lent tagmem) in
-        let u = tagged (returned tags) (returned tagmem) in
-        Marks (lent inputs) Ecall at (lent low) (lent low) t u }
+    ensures { let t = tagged tags.old tagmem.old in
+        let u = tagged tags.new tagmem.new in
+        Marks inputs.now Ecall at low.now low.now t u }
 {
     put(tags, 10, 0);
     let k = at.reads;
@@ -140,9 +139,9 @@ pub(crate) fn mark(
     tagmem: &mut Memory,
     at: At,
 )
-    ensures { let t = tagged (lent tags) (lent tagmem) in
-        let u = tagged (returned tags) (returned tagmem) in
-        Marks (lent inputs) i at (lent low) (lent high) t u }
+    ensures { let t = tagged tags.old tagmem.old in
+        let u = tagged tags.new tagmem.new in
+        Marks inputs.now i at low.now high.now t u }
 {
     match i {
         Instruction::Lui { rd, imm } => put(tags, rd, 0),

@@ -6,7 +6,11 @@
 use riscu::At;
 use riscu::plain::{Machine, put, register, store};
 use runs::running::proceed;
-use vectors::{differs, line_end, number_at};
+use std::io;
+use vectors::{differs, line_end, number_at, read_full};
+
+// How many bytes of input there is room for, and one more.
+const ROOM: usize = 65536;
 
 // How many bytes a name has, with the spaces after it.
 const NAME: usize = 5;
@@ -101,27 +105,23 @@ fn same_name(text: &[u8], a: usize, b: usize) -> bool {
     true
 }
 
-fn print_count(text: &[u8], name: usize, count: u64) {
+fn print_count(rt: &impl Print, text: &[u8], name: usize, count: u64) -> io::Result<()> {
     let n = text.len();
     if n < NAME {
-        return;
+        return Ok(());
     }
     if n - NAME < name {
-        return;
+        return Ok(());
     }
-    io::write_all(1, &text[name..name + NAME]);
-    io::print_decimal(1, count);
-    io::write_all(1, b"\n");
+    rt.write_all(&text[name..name + NAME])?;
+    println!(rt; "{count}")
 }
 
-fn print_sum(cases: u64, differ: u64) {
-    io::print_decimal(1, cases);
-    io::write_all(1, b" cases, ");
-    io::print_decimal(1, differ);
-    io::write_all(1, b" differ\n");
+fn print_sum(rt: &impl Print, cases: u64, differ: u64) -> io::Result<()> {
+    println!(rt; "{cases} cases, {differ} differ")
 }
 
-fn run_all(text: &[u8]) {
+fn run_all(rt: &impl Print, text: &[u8]) -> io::Result<()> {
     let mut cases: u64 = 0;
     let mut differ: u64 = 0;
     let mut name: usize = 0;
@@ -129,25 +129,25 @@ fn run_all(text: &[u8]) {
     let mut at: usize = 0;
     while at < text.len() {
         if !same_name(text, name, at) {
-            print_count(text, name, cases - before);
+            print_count(rt, text, name, cases - before)?;
             name = at;
             before = cases;
         }
         let end = line_end(text, at);
         cases += 1;
-        differ += differs(agrees(&text[at..end]), cases);
+        differ += differs(rt, agrees(&text[at..end]), cases)?;
         at = if end < text.len() { end + 1 } else { end };
     }
-    print_count(text, name, cases - before);
-    print_sum(cases, differ);
+    print_count(rt, text, name, cases - before)?;
+    print_sum(rt, cases, differ)
 }
 
-fn main() {
-    let mut buffer = io::large_buffer();
-    let n = io::read_full(0, &mut buffer);
-    if n == 65536 {
-        io::write_all(1, b"more input than the buffer holds\n");
-        return;
+// A read or a write that fails ends it with that error.
+fn main(rt: HostRuntime) -> io::Result<()> {
+    let mut buffer = [0u8; ROOM];
+    let n = read_full(&mut rt.stdin(), &mut buffer)?;
+    if n == ROOM {
+        return println!(rt; "more input than the buffer holds");
     }
-    run_all(&buffer[..n]);
+    run_all(&rt, &buffer[..n])
 }

@@ -1,6 +1,5 @@
 // One step of the plain machine, by the row of its word.
 ghost use Rattle.std.specs.Prelude.{◌≡◌};
-ghost use Rattle.riscu.specs.Lent.{lent, returned};
 ghost use Rattle.riscu.specs.Decode.{decode_of};
 ghost use Rattle.riscu.specs.Working.Table.{form_of};
 ghost use Rattle.riscu.specs.Machine.{step_decoded};
@@ -21,7 +20,7 @@ fn step_row(
     inputs: &[u64],
     at: At,
 ) -> At
-    ensures { state result (returned registers) (returned memory) ≡ step_decoded (lent inputs) (form_of row w) (state at (lent registers) (lent memory)) }
+    ensures { state result registers.new memory.new ≡ step_decoded inputs.now (form_of row w) (state at registers.old memory.old) }
 {
     let rd = w / 128 % 32;
     let rs1 = w / 32768 % 32;
@@ -59,7 +58,7 @@ pub(crate) fn step_word(
     inputs: &[u64],
     at: At,
 ) -> At
-    ensures { state result (returned registers) (returned memory) ≡ step_decoded (lent inputs) (decode_of word) (state at (lent registers) (lent memory)) }
+    ensures { state result registers.new memory.new ≡ step_decoded inputs.now (decode_of word) (state at registers.old memory.old) }
 {
     let w = word as usize;
     let row = row_of(w);

@@ -1,6 +1,5 @@
 // Runs of the plain machine.
 ghost use Rattle.std.specs.Prelude.{◌≡◌};
-ghost use Rattle.riscu.specs.Lent.{lent, returned};
 ghost use Rattle.riscu.specs.Machine.{fetch, step_decoded, run, start};
 ghost use Rattle.riscu.specs.Working.Parts.{state};
 
@@ -16,7 +15,7 @@ fn step_at(
     inputs: &[u64],
     at: At,
 ) -> At
-    ensures { state result (returned registers) (returned memory) ≡ step_decoded (lent inputs) (fetch (lent code) at.pc) (state at (lent registers) (lent memory)) }
+    ensures { state result registers.new memory.new ≡ step_decoded inputs.now (fetch code.now at.pc) (state at registers.old memory.old) }
 {
     let pc = at.pc;
     let n = code.len() as u64;
@@ -39,7 +38,7 @@ pub fn proceed(
     memory: &mut Memory,
     from: At,
 ) -> At
-    ensures { state result (returned registers) (returned memory) ≡ run (lent code) (lent inputs) n (state from (lent registers) (lent memory)) }
+    ensures { state result registers.new memory.new ≡ run code.now inputs.now n (state from registers.old memory.old) }
 {
     let mut at = from;
     let mut k: usize = 0;
@@ -52,7 +51,7 @@ pub fn proceed(
 
 // The starting machine, with memory as lent.
 pub fn begin(memory: &Memory, registers: &mut Registers, words: &mut Memory) -> At
-    ensures { state result (returned registers) (returned words) ≡ start (lent memory) }
+    ensures { state result registers.new words.new ≡ start memory.now }
 {
     let first = Machine::start();
     let held = first.registers;
@@ -73,7 +72,7 @@ pub fn run(
     registers: &mut Registers,
     scratch: &mut Memory,
 ) -> At
-    ensures { state result (returned registers) (returned scratch) ≡ run (lent code) (lent inputs) n (start (lent memory)) }
+    ensures { state result registers.new scratch.new ≡ run code.now inputs.now n (start memory.now) }
 {
     let at = begin(memory, registers, scratch);
     proceed(code, inputs, n, registers, scratch, at)

@@ -1,10 +1,13 @@
 // Test vectors as text: lines of hex numbers, with one byte between two numbers.
-// The programs that run a table of tests read it by this crate, and tell by it which lines differ.
+// The programs that run a table of tests take it in and read it by this crate, and tell by it which lines differ.
 // Every text is read: past its end there is no digit, and a number of no digits is 0.
 #![tactic(auto)]
 
-ghost use Rattle.std.specs.Prelude.{◌≡◌, cond, drop};
+ghost use Rattle.std.specs.Prelude.{◌≡◌, ◌≤◌, cond, drop, length, false, IfOk, OnErr};
 ghost use Rattle.vectors.specs.Working.Text.{digit_of, number_from, Ends};
+
+use std::io;
+use std::io::Read;
 
 // A number, and the place after the byte that ends it.
 #[derive(Drop)]
@@ -62,15 +65,29 @@ pub fn line_end(text: &[u8], from: usize) -> usize
     i
 }
 
-// How many of this one test differ: 0, or 1 with its line's number printed.
-pub fn differs(agrees: bool, number: u64) -> u64
-    ensures { result ≡ cond agrees 0 1 }
+// Reads until the buffer is full or the input ends: how many bytes it put at the buffer's start. A read that fails ends it with that error.
+pub fn read_full<R: Read>(from: &mut R, buf: &mut [u8]) -> io::Result<usize>
+    ensures { IfOk result (λ n. n ≤ length buf.new) }
+{
+    let mut done: usize = 0;
+    while done < buf.len() {
+        let n = from.read(&mut buf[done..])?;
+        if n == 0 {
+            break;
+        }
+        done += n;
+    }
+    Ok(done)
+}
+
+// How many of this one test differ: 0, or 1 with its line's number printed. Only that print can fail.
+pub fn differs(rt: &impl Print, agrees: bool, number: u64) -> io::Result<u64>
+    ensures ok { IfOk result (λ n. n ≡ cond agrees 0 1) }
+    ensures err { OnErr result (agrees ≡ false) }
 {
     if agrees {
-        return 0;
+        return Ok(0);
     }
-    io::write_all(1, b"line ");
-    io::print_decimal(1, number);
-    io::write_all(1, b" differs\n");
-    1
+    println!(rt; "line {number} differs")?;
+    Ok(1)
 }

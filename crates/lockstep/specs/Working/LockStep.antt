@@ -2,7 +2,8 @@
 use Rattle.std.specs.Prelude.{◌≡◌, cond, List, ℕ, zero, suc, eqb, get_or, replicate}
 use Rattle.boxes.specs.Boxes.{Choice, Box, lows, highs}
 use Rattle.riscu.specs.Limits.{memory_words}
-use Rattle.riscu.specs.Lent.{LentList, lent, returned}
+use Rattle.std.specs.Borrow.{MutBor}
+use denote.Triple.Both.{Both}
 use Rattle.riscu.specs.Machine.{State, start, fetch, step}
 use Rattle.riscu.specs.Working.Parts.{state}
 use Rattle.riscu.specs.declared.At.{At}
@@ -54,15 +55,19 @@ machines l c h o t v = record { low = l; lowmem = c; high = h; highmem = o; tags
 abbrev pub both : Corners → Machines → Pair
 both c m = pair (state c.low m.low m.lowmem) (state c.high m.high m.highmem) (tagged m.tags m.tagmem)
 
+-- a list that is lent to be written, as an `ensures` names it: what it holds at the call, and at the return
+abbrev pub LentMut : Type 0
+LentMut = Both (MutBor (List ℕ)) (MutBor (List ℕ))
+
 -- the same of lists that are lent: at the call, and at the return
 pub record LentMachines : Type 0 where
   pub before : Machines
   pub after : Machines
 
-abbrev pub lent_machines : LentList → LentList → LentList → LentList → LentList → LentList → LentMachines
+abbrev pub lent_machines : LentMut → LentMut → LentMut → LentMut → LentMut → LentMut → LentMachines
 lent_machines l c h o t v = record {
-  before = machines (lent l) (lent c) (lent h) (lent o) (lent t) (lent v);
-  after = machines (returned l) (returned c) (returned h) (returned o) (returned t) (returned v);
+  before = machines l.entry.now c.entry.now h.entry.now o.entry.now t.entry.now v.entry.now;
+  after = machines l.exit.now c.exit.now h.exit.now o.exit.now t.exit.now v.exit.now;
 }
 
 module _ (lows highs : Choice) where
