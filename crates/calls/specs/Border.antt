@@ -1,7 +1,7 @@
 -- The answer's numbers at the border, and what is lent, as contracts name it.
 use Rattle.std.specs.Prelude.{ℕ, ◌≡◌, ◌↔◌, Bool, true, false}
 use Rattle.std.proofs.Math.Option.{Option, none, some}
-use Rattle.riscu.specs.Lent.{LentList}
+use Rattle.riscu.specs.Lent.{LentList, LentMut}
 use Rattle.calls.specs.Questions.{number}
 use Rattle.calls.specs.Call.{Call, call_of, written, more, Left, called}
 use Rattle.calls.specs.declared.Refusal.{Refusal}
@@ -40,8 +40,8 @@ pub record InNumbers (o : Outcome) (a : Answer) : Type 0 where
 
 -- the call of what is lent, and what it leaves
 
-abbrev pub call_lent : LentList → LentList → ℕ → LentList → ℕ → Call
+abbrev pub call_lent : LentList → LentList → ℕ → LentMut → ℕ → Call
 call_lent code intervals limit report first = call_of code.entry.now intervals.entry.now limit report.entry.now first
 
-abbrev pub called_on : LentList → LentList → Call → Left
+abbrev pub called_on : LentList → LentMut → Call → Left
 called_on memory table c = called memory.entry.now table.entry.now c

@@ -1,9 +1,8 @@
 // The questions, asked in document 01's order; the first no decides.
 ghost use Rattle.std.specs.Prelude.{◌≡◌};
 ghost use Rattle.blocks.specs.Record.{record_bytes};
-ghost use Rattle.calls.specs.Call.{box_of};
+ghost use Rattle.calls.specs.Call.{call_of, box_of};
 ghost use Rattle.calls.specs.Questions.{code_fits, inputs_fit, intervals_fit, in_order, limit_fits, table_fits, memory_fits, report_fits, first_fits};
-ghost use Rattle.calls.specs.Border.{call_lent};
 ghost use Rattle.calls.specs.Working.Asking.{refusal_in, refusal_on};
 
 use crate::{Questioned, Refusal};
@@ -103,7 +102,7 @@ pub fn ask(
     report: &[u8],
     first: u64,
 ) -> Questioned
-    ensures { refusal_in result ≡ refusal_on memory table (call_lent code intervals limit report first) }
+    ensures { refusal_in result ≡ refusal_on memory table (call_of code.now intervals.now limit report.now first) }
 {
     if !code_fits(code.len() as u64) {
         return Questioned::No(Refusal::Code);

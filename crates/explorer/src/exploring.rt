@@ -1,7 +1,7 @@
 // The exploration of an accepted call.
 ghost use Rattle.std.specs.Prelude.{◌≡◌, ◌-◌, ◌<◌, length};
 ghost use Rattle.std.proofs.Math.Option.{none};
-ghost use Rattle.riscu.specs.Lent.{lent, returned};
+ghost use Rattle.riscu.specs.Lent.{lent};
 ghost use Rattle.riscu.specs.Limits.{memory_words};
 ghost use Rattle.calls.specs.Call.{call_of, refusal_of, left};
 ghost use Rattle.calls.specs.Border.{call_lent, called_on};
@@ -63,7 +63,7 @@ fn explore_box(
 ) -> Standing
     requires { Begins (job_at code memory intervals limits) limits window lows.old highs.old table.old report.old }
     ensures { let c = call_lent code intervals limits.steps report window.first in
-        Finished (job_lent code memory intervals limits) c (returned report) result }
+        Finished (job_lent code memory intervals limits) c report.new result }
 {
     let mut low = [0u64; 32];
     let mut high = [0u64; 32];
@@ -124,7 +124,7 @@ pub fn accepted(
     requires { let c = call_of code.now intervals.now limit report.old first in
         refusal_of memory.now (length table.old) c ≡ none }
     ensures { let c = call_lent code intervals limit report first in
-        let l = left result (returned report) (returned table) (lent memory) in
+        let l = left result report.new table.new (lent memory) in
         l ≡ called_on memory table c }
 {
     let held = copied(memory);

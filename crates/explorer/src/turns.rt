@@ -1,6 +1,6 @@
 // One turn of an exploration, and the turns until it stops.
 ghost use Rattle.std.specs.Prelude.{◌≡◌, true, false, ◌+◌, ◌≤◌, ◌<◌, ◌^◌, length, drop};
-ghost use Rattle.riscu.specs.Lent.{lent, returned};
+ghost use Rattle.riscu.specs.Lent.{lent};
 ghost use Rattle.blocks.specs.Record.{most_inputs, record_bytes};
 ghost use Rattle.lockstep.specs.Working.LockStep.{both, lent_machines, advanced};
 ghost use Rattle.pages.specs.Working.Page.{ended_path, page_with, filled};
@@ -64,7 +64,7 @@ fn end_path(
     requires paths_bound { s.paths + 1 < 2 ^ 64 }
     ensures value { result ≡ ended s }
     ensures report_value { let p = ended_path (lent lows) (lent highs) (lent low) (lent high) s.at.low s.steps end in
-        returned report ≡ page_with window s.paths p (lent report) }
+        report.new ≡ page_with window s.paths p report.old }
 {
     let at = s.at;
     let n = s.paths;
@@ -230,9 +230,9 @@ pub(crate) fn run_turns(
     requires { let x = lists_at lows highs table low lowmem high highmem tags tagmem in
         Explored (job_at code memory intervals limits) limits window x report.old (begun at) }
     ensures fact { let z = lent_lists lows highs table low lowmem high highmem tags tagmem in
-        Explored (job_lent code memory intervals limits) limits window z.after (returned report) result }
+        Explored (job_lent code memory intervals limits) limits window z.after report.new result }
     ensures phase_value { going result.phase ≡ false }
-    ensures report_value { let n = filled limits.inputs window result.paths in drop n (returned report) ≡ drop n (lent report) }
+    ensures report_value { let n = filled limits.inputs window result.paths in drop n report.new ≡ drop n report.old }
 {
     let mut s = Standing {
         phase: Phase::AtGroup,

@@ -2,7 +2,7 @@
 use Rattle.std.specs.Prelude.{ℕ, ◌*◌, ◌/◌, ◌%◌, Bool, true, false, cond, ◌&&◌, List, [], ◌∷◌, map, leb, eqb, length, take, drop}
 use Rattle.boxes.specs.Boxes.{Choice, Box, from}
 use Rattle.words.specs.Word.{max_word}
-use Rattle.riscu.specs.Lent.{LentList}
+use Rattle.riscu.specs.Lent.{LentList, LentMut}
 use Rattle.blocks.specs.Said.{Said}
 use Rattle.calls.specs.Questions.{Question, ◌otherwise◌}
 use Rattle.calls.specs.Done.{DoneLeft, Deed, done_to}
@@ -81,5 +81,5 @@ placed c = done_to (place_questions c) (place_deed c)
 abbrev pub place_call_lent : ℕ → LentList → LentList → LentList → PlaceCall
 place_call_lent inputs report rows answers = place_call_of inputs report.entry.now rows.entry.now answers.entry.now
 
-abbrev pub placed_on : ℕ → LentList → LentList → LentList → DoneLeft
-placed_on inputs report rows answers = placed (place_call_lent inputs report rows answers)
+abbrev pub placed_on : ℕ → LentList → LentList → LentMut → DoneLeft
+placed_on inputs report rows answers = placed (place_call_of inputs report.entry.now rows.entry.now answers.entry.now)

@@ -6,7 +6,7 @@ use Rattle.decide.specs.declared.Limits.{Limits}
 use Rattle.lockstep.specs.Working.LockStep.{Machines}
 use Rattle.pages.specs.Working.Page.{filled}
 use Rattle.pages.specs.declared.Window.{Window}
-use Rattle.riscu.specs.Lent.{LentList, lent, returned}
+use Rattle.riscu.specs.Lent.{LentMut}
 use Rattle.explorer.specs.Working.Held.{Lists, lists, LentLists, latest, listed, standing, Held, work}
 use Rattle.explorer.specs.declared.Phase.TheVariants.{AtGroup, Stopped}
 use Rattle.explorer.specs.declared.Standing.{Standing}
@@ -41,8 +41,8 @@ pub record Turned (j : Job) (m : Limits) (w : Window) (x : Lists) (lent : List �
   pub kept : drop (filled m.inputs w r.paths) report ≡ drop (filled m.inputs w r.paths) lent
 
 -- the same of lists and a report that are lent
-abbrev pub TurnedLent : Job → Limits → Window → LentLists → LentList → Standing → Standing → Type 0
-TurnedLent j m w z report s r = Turned j m w z.before (lent report) s z.after (returned report) r
+abbrev pub TurnedLent : Job → Limits → Window → LentLists → LentMut → Standing → Standing → Type 0
+TurnedLent j m w z report s r = Turned j m w z.before report.entry.now s z.after report.exit.now r
 
 -- a turn between two groups leaves the report alone, whatever it holds
 pub record TurnedBetween (j : Job) (m : Limits) (w : Window) (x : Lists) (s : Standing) (y : Lists) (r : Standing) : Type 0 where

@@ -1,6 +1,6 @@
 -- What the explorer's lists and numbers stand for: a state that the engine of `forks` comes to, with both corners' machines.
 use Rattle.std.specs.Prelude.{◌≡◌, ◌⊎◌, ◌≢◌, Bool, true, false, List, ◌∷◌, ℕ, ◌+◌, ◌-◌, ◌*◌, ◌≤◌, ◌<◌, ltb, length, get_or, take}
-use Rattle.std.specs.Borrow.{Bor}
+use Rattle.std.specs.Borrow.{Bor, MutBor}
 use Rattle.riscu.specs.Machine.{run, start}
 use Rattle.riscu.specs.declared.Instruction.{Instruction}
 use Rattle.listing.specs.Group.{Job, Group, class_of}
@@ -12,7 +12,7 @@ use Rattle.forks.specs.Working.Turn.{Position, running, resting, Reached, Fetche
 use Rattle.calls.specs.Limits.{entry_words}
 use Rattle.forks.specs.Working.Table.{group_in, fork_in, forks_in, HasEntry, OnTop}
 use Rattle.boxes.specs.Working.Cuts.{box_in}
-use Rattle.riscu.specs.Lent.{LentList, lent, returned}
+use Rattle.riscu.specs.Lent.{LentList, LentMut, lent}
 use Rattle.lockstep.specs.Working.LockStep.{Pair, Machines, machines, both, lent_machines, advanced, pair, AtCorners}
 use Rattle.cuts.specs.Working.Cutting.{probed, Starts}
 use Rattle.cuts.specs.Working.Forking.{Parted}
@@ -39,18 +39,21 @@ lists ls hs t m = record { lows = ls; highs = hs; table = t; machines = m }
 
 -- the lists that are lent, as a `requires` names them; and as an `ensures` does, at the call and at the return
 
-abbrev pub lists_at : Bor (List ℕ) → Bor (List ℕ) → Bor (List ℕ) → Bor (List ℕ) → Bor (List ℕ) → Bor (List ℕ) → Bor (List ℕ)
-    → Bor (List ℕ) → Bor (List ℕ) → Lists
+abbrev pub lists_at : MutBor (List ℕ) → MutBor (List ℕ) → MutBor (List ℕ) → MutBor (List ℕ) → MutBor (List ℕ) → MutBor (List ℕ)
+    → MutBor (List ℕ) → MutBor (List ℕ) → MutBor (List ℕ) → Lists
 lists_at ls hs t l c h o r w = lists ls.now hs.now t.now (machines l.now c.now h.now o.now r.now w.now)
 
 pub record LentLists : Type 0 where
   pub before : Lists
   pub after : Lists
 
-abbrev pub lent_lists : LentList → LentList → LentList → LentList → LentList → LentList → LentList → LentList → LentList → LentLists
+abbrev pub lent_lists : LentMut → LentMut → LentMut → LentMut → LentMut → LentMut → LentMut → LentMut → LentMut → LentLists
 lent_lists ls hs t l c h o r w =
     let m = lent_machines l c h o r w in
-    record { before = lists (lent ls) (lent hs) (lent t) m.before; after = lists (returned ls) (returned hs) (returned t) m.after }
+    record {
+      before = lists ls.entry.now hs.entry.now t.entry.now m.before;
+      after = lists ls.exit.now hs.exit.now t.exit.now m.after;
+    }
 
 -- the job that is explored; and the same of the code, memory and intervals that are lent
 abbrev pub job_in : List ℕ → List ℕ → List ℕ → Limits → Job

@@ -4,8 +4,8 @@ use Rattle.std.proofs.Math.Option.{Option, none, some}
 use Rattle.riscu.specs.Limits.{code_words, memory_words}
 use Rattle.blocks.specs.Block.{block_bytes}
 use Rattle.blocks.specs.Record.{most_inputs}
-use Rattle.riscu.specs.Lent.{LentList}
 use Rattle.calls.specs.declared.Refusal.{Refusal}
+use Rattle.riscu.specs.Lent.{LentList, LentMut}
 use Rattle.jobs.specs.Job.{code_count, input_count, step_limit, first_path, given_count, JobRead, job_read, job_refusal_of}
 use Rattle.jobs.specs.declared.Counts.{Counts}
 use Rattle.jobs.specs.declared.JobAnswer.{JobAnswer}
@@ -51,9 +51,9 @@ unfoldable pub read_to : List ℕ → List ℕ → List ℕ → List ℕ → Job
 read_to bytes code intervals memory = read_by bytes code intervals memory (job_refusal_of bytes)
 
 -- what is lent to the reader and answered, at the return, and what document 01 gives for it
-abbrev pub left_in : JobAnswer → LentList → LentList → LentList → JobLeft
+abbrev pub left_in : JobAnswer → LentMut → LentMut → LentMut → JobLeft
 left_in answer code intervals memory = job_left answer code.exit.now intervals.exit.now memory.exit.now
 
-abbrev pub read_into : LentList → LentList → LentList → LentList → JobLeft
+abbrev pub read_into : LentList → LentMut → LentMut → LentMut → JobLeft
 read_into bytes code intervals memory =
     read_to bytes.entry.now code.entry.now intervals.entry.now memory.entry.now

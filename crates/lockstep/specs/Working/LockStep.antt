@@ -1,9 +1,8 @@
 -- The machines at the two corners of a box, and the tags, run in lock step.
 use Rattle.std.specs.Prelude.{◌≡◌, cond, List, ℕ, zero, suc, eqb, get_or, replicate}
 use Rattle.boxes.specs.Boxes.{Choice, Box, lows, highs}
+use Rattle.riscu.specs.Lent.{LentMut}
 use Rattle.riscu.specs.Limits.{memory_words}
-use Rattle.std.specs.Borrow.{MutBor}
-use denote.Triple.Both.{Both}
 use Rattle.riscu.specs.Machine.{State, start, fetch, step}
 use Rattle.riscu.specs.Working.Parts.{state}
 use Rattle.riscu.specs.declared.At.{At}
@@ -54,10 +53,6 @@ machines l c h o t v = record { low = l; lowmem = c; high = h; highmem = o; tags
 -- with where the machines are
 abbrev pub both : Corners → Machines → Pair
 both c m = pair (state c.low m.low m.lowmem) (state c.high m.high m.highmem) (tagged m.tags m.tagmem)
-
--- a list that is lent to be written, as an `ensures` names it: what it holds at the call, and at the return
-abbrev pub LentMut : Type 0
-LentMut = Both (MutBor (List ℕ)) (MutBor (List ℕ))
 
 -- the same of lists that are lent: at the call, and at the return
 pub record LentMachines : Type 0 where

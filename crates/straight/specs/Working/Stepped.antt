@@ -11,7 +11,7 @@ use Rattle.decide.specs.Working.Corner.{row_decision, decision}
 use Rattle.decide.specs.declared.Limits.{Limits}
 use Rattle.decide.specs.declared.Used.{Used}
 use Rattle.decide.specs.declared.Decision.TheVariants.{Steps}
-use Rattle.riscu.specs.Lent.{LentList}
+use Rattle.riscu.specs.Lent.{LentMut}
 use Rattle.lockstep.specs.Working.LockStep.{Pair, Machines, machines, both, advanced, lock_steps}
 use Rattle.lockstep.specs.declared.Corners.{Corners}
 use Rattle.straight.specs.declared.Straight.{Straight}
@@ -32,7 +32,7 @@ Stepped entries i a x y (Taken b w) = Goes entries i x.low x.high w × Moves i (
 Stepped entries i a x y Left = y ≡ x
 
 -- of a row that leaves memory alone, in registers and tags that are lent
-abbrev pub RegistersStepped : ℕ → Instruction → Corners → LentList → LentList → LentList → Straight → Type 0
+abbrev pub RegistersStepped : ℕ → Instruction → Corners → LentMut → LentMut → LentMut → Straight → Type 0
 RegistersStepped entries i a l h t r = (c o v : List ℕ)
     → Stepped entries i a (machines l.entry.now c h.entry.now o t.entry.now v)
     (machines l.exit.now c h.exit.now o t.exit.now v) r

@@ -1,0 +1,6 @@
+use Rattle.riscu.proofs.Rows.{decoded}
+use borrow.Author.Rules.{rules}
+use Rattle.straight.proofs.rows.straight_word.Goals as goal
+
+pub returns : goal.returns
+returns c = rw (c.row_of-row.ensures, decoded c.args.word) at c.straight_row.ensures
