@@ -1,6 +1,5 @@
 // The table of forks, an entry each, the latest fork last.
 ghost use Rattle.std.specs.Prelude.{◌≡◌, ◌+◌, ◌<◌, length, replicate};
-ghost use Rattle.riscu.specs.Lent.{lent, returned};
 ghost use Rattle.forks.specs.Working.Stack.{with_rest, spend};
 ghost use Rattle.forks.specs.Working.Table.{fork_in, HasEntry, OnTop};
 ghost use Rattle.cuts.specs.Working.Entries.{fork_of, fork_held};
@@ -44,7 +43,7 @@ fn push(
     used: usize,
 )
     requires { HasEntry table.old n }
-    ensures { OnTop (fork_of input low high rest steps used) (lent table) n (returned table) }
+    ensures { OnTop (fork_of input low high rest steps used) table.old n table.new }
 {
     let k = ENTRY_WORDS * n;
     table[k] = input as u64;
@@ -68,7 +67,7 @@ pub fn note(
     used: usize,
 )
     requires { HasEntry table.old n × (edge < high) }
-    ensures { OnTop (fork_of input low high (edge + 1) steps used) (lent table) n (returned table) }
+    ensures { OnTop (fork_of input low high (edge + 1) steps used) table.old n table.new }
 {
     push(table, n, input, low, high, edge + 1, steps, used);
 }
@@ -76,7 +75,7 @@ pub fn note(
 // The entry of fork n.
 pub fn top(table: &[u64], n: usize) -> Entry
     requires { HasEntry table.now n }
-    ensures { fork_held result ≡ fork_in (lent table) n }
+    ensures { fork_held result ≡ fork_in table.now n }
 {
     let k = ENTRY_WORDS * n;
     Entry {
@@ -93,7 +92,7 @@ pub fn top(table: &[u64], n: usize) -> Entry
 // Another rest of the latest fork.
 fn shorten(table: &mut [u64], n: usize, rest: u64)
     requires { HasEntry table.old n }
-    ensures { OnTop (with_rest (fork_in (lent table) n) rest) (lent table) n (returned table) }
+    ensures { OnTop (with_rest (fork_in table.old n) rest) table.old n table.new }
 {
     let k = ENTRY_WORDS * n + REST;
     table[k] = rest;
@@ -102,7 +101,7 @@ fn shorten(table: &mut [u64], n: usize, rest: u64)
 // Its rest begins above an edge.
 pub fn rise(table: &mut [u64], n: usize, edge: u64, high: u64)
     requires { HasEntry table.old n × (edge < high) }
-    ensures { OnTop (with_rest (fork_in (lent table) n) (edge + 1)) (lent table) n (returned table) }
+    ensures { OnTop (with_rest (fork_in table.old n) (edge + 1)) table.old n table.new }
 {
     shorten(table, n, edge + 1);
 }
@@ -110,7 +109,7 @@ pub fn rise(table: &mut [u64], n: usize, edge: u64, high: u64)
 // Nothing left of the latest fork.
 pub fn spend(table: &mut [u64], n: usize)
     requires { HasEntry table.old n }
-    ensures { OnTop (spend (fork_in (lent table) n)) (lent table) n (returned table) }
+    ensures { OnTop (spend (fork_in table.old n)) table.old n table.new }
 {
     let k = ENTRY_WORDS * n + SPENT;
     table[k] = 1;
@@ -118,7 +117,7 @@ pub fn spend(table: &mut [u64], n: usize)
 
 // The whole table is zero.
 pub fn clear(table: &mut [u64])
-    ensures { returned table ≡ replicate (length (lent table)) 0 }
+    ensures { table.new ≡ replicate (length table.old) 0 }
 {
     let mut k: usize = 0;
     while k < table.len() {

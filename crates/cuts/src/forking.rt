@@ -1,6 +1,5 @@
 // A box in two lists: cut along an input, and with another interval for an input.
 ghost use Rattle.std.specs.Prelude.{◌≡◌, ◌<◌, length};
-ghost use Rattle.riscu.specs.Lent.{lent, returned};
 ghost use Rattle.boxes.specs.Boxes.{◌⋯◌};
 ghost use Rattle.boxes.specs.Working.Cuts.{cut, box_in};
 ghost use Rattle.riscu.specs.Machine.{run, start};
@@ -38,10 +37,10 @@ pub fn part(
 ) -> Below
     requires { let f = probed code.now memory.now steps i highs.old input in
         Partable f class input lows.now highs.old }
-    ensures fact { let f = probed (lent code) (lent memory) steps i (lent highs) input in
-        Parted f class input (lent lows) (lent highs) (returned highs) result.edge }
-    ensures scratch_value { let s = run (lent code) (returned highs) steps (start (lent memory)) in
-        state result.high (returned registers) (returned scratch) ≡ s }
+    ensures fact { let f = probed code.now memory.now steps i highs.old input in
+        Parted f class input lows.now highs.old highs.new result.edge }
+    ensures scratch_value { let s = run code.now highs.new steps (start memory.now) in
+        state result.high registers.new scratch.new ≡ s }
 {
     let lo = lows[input];
     let hi = highs[input];
@@ -62,7 +61,7 @@ pub fn part(
 // Gives an input another interval.
 pub fn set_interval(lows: &mut [u64], highs: &mut [u64], input: usize, low: u64, high: u64)
     requires { (input < length lows.old) × (input < length highs.old) }
-    ensures { box_in (returned lows) (returned highs) ≡ cut (box_in (lent lows) (lent highs)) input (low ⋯ high) }
+    ensures { box_in lows.new highs.new ≡ cut (box_in lows.old highs.old) input (low ⋯ high) }
 {
     lows[input] = low;
     highs[input] = high;

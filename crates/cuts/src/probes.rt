@@ -1,6 +1,5 @@
 // Where a class changes along one input: probes, and the search for the edge.
 ghost use Rattle.std.specs.Prelude.{◌≡◌, true, ◌+◌, ◌<◌, ◌≤◌, ◌-◌, ◌*◌, length};
-ghost use Rattle.riscu.specs.Lent.{lent, returned};
 ghost use Rattle.riscu.specs.Working.Parts.{state};
 ghost use Rattle.cuts.specs.Working.Cutting.{reached, probed, Starts, Turning};
 
@@ -30,9 +29,9 @@ fn probe(
     n: usize,
 ) -> At
     requires { input < length choice.old }
-    ensures scratch_value { let s = reached (lent code) (lent memory) n (lent choice) input x in
-        state result (returned registers) (returned scratch) ≡ s }
-    ensures choice_value { returned choice ≡ lent choice }
+    ensures scratch_value { let s = reached code.now memory.now n choice.old input x in
+        state result registers.new scratch.new ≡ s }
+    ensures choice_value { choice.new ≡ choice.old }
 {
     let old = choice[input];
     choice[input] = x;
@@ -107,10 +106,10 @@ pub(crate) fn cut(
 ) -> Found
     requires input_in_bounds { input < length choice.old }
     requires starts { Starts (probed code.now memory.now n i choice.old input) class lo hi }
-    ensures turning { Turning (probed (lent code) (lent memory) n i (lent choice) input) class lo hi result.edge }
-    ensures fact { let s = reached (lent code) (lent memory) n (lent choice) input result.edge in
-        (result.there ≡ true → state result.at (returned registers) (returned scratch) ≡ s) }
-    ensures choice_value { returned choice ≡ lent choice }
+    ensures turning { Turning (probed code.now memory.now n i choice.old input) class lo hi result.edge }
+    ensures fact { let s = reached code.now memory.now n choice.old input result.edge in
+        (result.there ≡ true → state result.at registers.new scratch.new ≡ s) }
+    ensures choice_value { choice.new ≡ choice.old }
 {
     let mut a = lo;
     let mut b = hi;

@@ -4,7 +4,6 @@
 #![tactic(auto)]
 
 ghost use Rattle.std.specs.Prelude.{◌≡◌, ◌+◌, ◌-◌, ◌*◌, ◌≤◌, ◌<◌, length};
-ghost use Rattle.riscu.specs.Lent.{lent, returned};
 ghost use Rattle.blocks.specs.Record.{most_inputs, record_bytes};
 ghost use Rattle.pages.specs.Working.Page.{leasts, greatests, ended_path, page_with, filled};
 
@@ -30,8 +29,8 @@ pub struct Extremes {
 }
 
 fn bounds(low: &Registers, high: &Registers) -> Extremes
-    ensures lesser_value { result.lesser ≡ leasts (lent low) (lent high) }
-    ensures greater_value { result.greater ≡ greatests (lent low) (lent high) }
+    ensures lesser_value { result.lesser ≡ leasts low.now high.now }
+    ensures greater_value { result.greater ≡ greatests low.now high.now }
 {
     let mut lesser = [0u64; 32];
     let mut greater = [0u64; 32];
@@ -61,8 +60,8 @@ pub fn write_path(
 )
     requires lows_len_bound { (length lows.now ≤ most_inputs) × (length lows.now ≡ length highs.now) }
     requires lows_in_bounds { filled (length lows.now) window number + record_bytes (length lows.now) ≤ length report.old }
-    ensures { let p = ended_path (lent lows) (lent highs) (lent low) (lent high) at steps end in
-        returned report ≡ page_with window number p (lent report) }
+    ensures { let p = ended_path lows.now highs.now low.now high.now at steps end in
+        report.new ≡ page_with window number p report.old }
 {
     if number < window.first {
         return;

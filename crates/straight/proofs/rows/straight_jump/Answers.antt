@@ -1,0 +1,20 @@
+use Rattle.straight.proofs.Taking.{goes}
+use Rattle.listing.specs.Group.{sorting_of, class_by, class_of}
+use Rattle.listing.specs.Ending.{operand_points, address_points, points, writes}
+use Rattle.decide.specs.Working.Corner.{verdict}
+use Rattle.corners.specs.Working.Tags.{tag_step}
+use Rattle.lockstep.specs.Working.LockStep.{tagged, pair}
+use Rattle.riscu.specs.declared.Instruction.TheVariants.{Jal}
+use Rattle.words.proofs.Signs.{held, held_is}
+use mathlib.Core.Path.{refl}
+use borrow.Author.Rules.{rules}
+use Rattle.straight.proofs.rows.straight_jump.Goals as goal
+
+pub returns : goal.returns
+unfolding points address_points sorting_of operand_points verdict class_of class_by writes tag_step
+returns c =
+    let a = c.args in
+    rw (← held_is a.imm c.ranges.imm.sfits) (λ m n v. (
+      goes (Jal a.rd (held a.imm)) refl refl (λ left. c.one_unless_zero-w.ensures) c.if-entries-w.false,
+      λ lows highs. λ j. pair (c.jal-l.ensures m lows j) (c.jal-h.ensures n highs j) (tagged (c.put.ensures j) v),
+    ))
