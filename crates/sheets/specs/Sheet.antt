@@ -3,7 +3,7 @@ use Rattle.std.specs.Prelude.{ℕ, ◌+◌, ◌*◌, ◌/◌, min, length, drop}
 use mathlib.Core.List.{List, [], ◌∷◌, ◌++◌, flat_map}
 use Rattle.boxes.specs.Boxes.{Box}
 use Rattle.words.specs.Word.{max_word}
-use Rattle.riscu.specs.Lent.{LentList}
+use Rattle.riscu.specs.Lent.{LentList, LentMut}
 use Rattle.blocks.specs.Record.{record_bytes}
 use Rattle.blocks.specs.Said.{Said}
 use Rattle.calls.specs.Questions.{Question, ◌otherwise◌, space_fits}
@@ -76,5 +76,5 @@ printed c = done_to (sheet_questions c) (sheet_deed c)
 abbrev pub sheet_call_lent : ℕ → LentList → LentList → SheetCall
 sheet_call_lent inputs report sheet = sheet_call_of inputs report.entry.now sheet.entry.now
 
-abbrev pub printed_on : ℕ → LentList → LentList → DoneLeft
-printed_on inputs report sheet = printed (sheet_call_lent inputs report sheet)
+abbrev pub printed_on : ℕ → LentList → LentMut → DoneLeft
+printed_on inputs report sheet = printed (sheet_call_of inputs report.entry.now sheet.entry.now)

@@ -110,8 +110,8 @@ module _ (j : JobRead) (typed : TypedValues j) (passed : Passes j) where
   head_length : length head ≡ block_bytes
   head_length = block_length (header_words j) (omega (arith, header_length j))
 
-  code_count : code_count bytes ≡ length j.code
-  code_count = code_read j words rest
+  code_count_lem : code_count bytes ≡ length j.code
+  code_count_lem = code_read j words rest
 
   given_count_lem : given_count bytes ≡ given_of j.memory
   given_count_lem = given_read j words rest few
@@ -129,7 +129,7 @@ module _ (j : JobRead) (typed : TypedValues j) (passed : Passes j) where
 
   code_in_lem : code_in bytes ≡ j.code
   unfolding code_in
-  code_in_lem = copied_is (code_at bytes) (code_count bytes) j.code code_count (λ k l. code_at_lem k (omega (arith, code_count)))
+  code_in_lem = copied_is (code_at bytes) (code_count bytes) j.code code_count_lem (λ k l. code_at_lem k (omega (arith, code_count_lem)))
 
   -- the memory words given
   given_words_lem : Words (given_words j.memory)
@@ -142,7 +142,7 @@ module _ (j : JobRead) (typed : TypedValues j) (passed : Passes j) where
       let room : i < payload_words * blocks_for (length ws) = rw (given_length j.memory) l in
       let size : length (head ++ code_part) ≡ (first_code (input_count bytes) + n) * block_bytes =
       omega (arith, length-append head code_part, head_length, part_length (code_pairs j.code) ∙ ap (λ (x : ℕ). block_bytes * blocks_for x) (pairs_count j.code)) in
-      rw code_count
+      rw code_count_lem
       (rw (append-nil, append_assoc) at (payload_part ws given_words_lem (head ++ code_part) [] (first_code (input_count bytes) + n) i size room))
 
   memory_in_lem : memory_in bytes ≡ j.memory
@@ -179,7 +179,7 @@ module _ (j : JobRead) (typed : TypedValues j) (passed : Passes j) where
 
   half_unused : (k : ℕ) → code_count bytes ≤ k → k < 2 * payload_words * blocks_for (code_payload (code_count bytes)) → zero_half bytes k ≡ true
   half_unused k l m =
-      eq-eqb _ _ (code_at_lem k (rw code_count at m) ∙ get_or-eq_default j.code 0 {n = k} (omega (arith, code_count)))
+      eq-eqb _ _ (code_at_lem k (rw code_count_lem at m) ∙ get_or-eq_default j.code 0 {n = k} (omega (arith, code_count_lem)))
 
   word_unused : (i : ℕ) → given_count bytes ≤ i → i < payload_words * blocks_for (given_count bytes) → zero_word bytes (first_memory bytes) i ≡ true
   word_unused i l m =
@@ -231,7 +231,7 @@ module _ (j : JobRead) (typed : TypedValues j) (passed : Passes j) where
   form : well_formed bytes ≡ true
   unfolding well_formed
   form =
-      rw (mark_read j words rest, code_count, given_count_lem, eq-eqb _ _ blocks_count) all_unused
+      rw (mark_read j words rest, code_count_lem, given_count_lem, eq-eqb _ _ blocks_count) all_unused
 
   pub form_accepted : job_refusal_of (job_form j) ≡ none
   unfolding job_form job_questions

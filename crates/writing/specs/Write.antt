@@ -1,6 +1,6 @@
 -- Document 02, No. 8: the call that writes a job.
 use Rattle.std.specs.Prelude.{ℕ, List, [], ◌∷◌, ◌++◌, length, drop}
-use Rattle.riscu.specs.Lent.{LentList}
+use Rattle.riscu.specs.Lent.{LentList, LentMut}
 use Rattle.calls.specs.Questions.{Question, ◌otherwise◌, code_fits, intervals_fit, in_order, limit_fits, memory_fits, first_fits, space_fits}
 use Rattle.calls.specs.Call.{box_of}
 use Rattle.calls.specs.Border.{refused_number}
@@ -66,5 +66,5 @@ values_of code memory intervals limit first =
 abbrev pub values_lent : LentList → LentList → LentList → ℕ → ℕ → JobRead
 values_lent code memory intervals limit first = values_of code.entry.now memory.entry.now intervals.entry.now limit first
 
-abbrev pub job_written_on : JobRead → LentList → DoneLeft
+abbrev pub job_written_on : JobRead → LentMut → DoneLeft
 job_written_on j space = job_written (write_call_of j space.entry.now)

@@ -1,0 +1,63 @@
+use mathlib.Core.Path.{refl}
+use Rattle.explorer.proofs.Forking.{tag_inside, fork_partable, fork_entry, fork_used, fork_steps, with_run, fork_done}
+use native.Mathlib.Omega.{arith}
+use borrow.Author.Rules.{rules}
+use Rattle.explorer.proofs.branching.fork_on.Goals as goal
+
+pub overflow_add-steps : goal.overflow_add-steps
+overflow_add-steps c =
+    omega (arith, fork_steps c.requires)
+
+pub overflow_add-used : goal.overflow_add-used
+overflow_add-used c =
+    omega (arith, fork_used c.requires, c.writes-w.ensures, c.well_formed.1.1.1.1.1.1.0.0)
+
+pub overflow_add-used-2 : goal.overflow_add-used-2
+overflow_add-used-2 c =
+    omega (arith, fork_used c.requires, c.writes-w.ensures, c.well_formed.1.1.1.1.1.1.0.0)
+
+pub overflow_add-forks : goal.overflow_add-forks
+overflow_add-forks c =
+    omega (arith, fork_entry c.requires, c.well_formed.1.1.1.1.1.1.0.0)
+
+pub offset_bounds-lows-input : goal.offset_bounds-lows-input
+offset_bounds-lows-input c =
+    let t = c.class_tag-tag in
+    omega (arith, c.well_formed.1.1.1.1.0.1, tag_inside c.requires t.result t.ensures)
+
+pub bounds-lows-input : goal.bounds-lows-input
+bounds-lows-input c =
+    let t = c.class_tag-tag in
+    tag_inside c.requires t.result t.ensures
+
+pub offset_bounds-highs-input : goal.offset_bounds-highs-input
+offset_bounds-highs-input c =
+    let t = c.class_tag-tag in
+    omega (arith, c.well_formed.1.1.1.1.0.1, tag_inside c.requires t.result t.ensures)
+
+pub bounds-highs-input : goal.bounds-highs-input
+bounds-highs-input c =
+    let h = c.requires in
+    let t = c.class_tag-tag in
+    omega (arith, h.held.fits.paired, tag_inside h t.result t.ensures)
+
+pub part-below-requires : goal.part-below-requires
+part-below-requires c =
+    let t = c.class_tag-tag in
+    let k = c.class_of-class in
+    fork_partable c.requires t.result t.ensures k.result k.ensures
+
+pub note-requires : goal.note-requires
+note-requires c =
+    (fork_entry c.requires, c.part-below.ensures.fact.edge.below_hi)
+
+pub returns : goal.returns
+returns c =
+    let a = c.args in
+    let t = c.class_tag-tag in
+    let k = c.class_of-class in
+    let p = c.part-below in
+    let n = c.note in
+    rw c.writes-w.ensures
+    (fork_done c.requires t.result t.ensures k.result k.ensures _ c.advance-to.result p.result.edge refl p.ensures.0
+    n.ensures n.auto.0 (with_run a.lows.now _ a.i _ _ p.ensures.1 c.advance-to.ensures))

@@ -1,0 +1,14 @@
+use Rattle.boxes.proofs.Filled.{Filled, none_filled, one_filled, all_filled}
+use Rattle.blocks.specs.Record.{most_inputs}
+use lib.ListN.{get_or}
+use mathlib.Core.Path.{refl}
+use Prim.Native.Nat.{◌+◌, ◌*◌, ◌≤◌, ◌-◌}
+use native.Mathlib.Omega.{arith}
+use borrow.Author.Rules.{rules}
+use Rattle.explorer.proofs.exploring.ends.Given as goal
+
+abbrev pub invariant-loop-k : goal.invariant-loop-k
+invariant-loop-k l = (l.k ≤ most_inputs) × Filled (λ i. get_or l.intervals (2 * i + l.side) 0) most_inputs l.words l.k
+
+abbrev pub decreases-loop-k : goal.decreases-loop-k
+decreases-loop-k l = most_inputs - l.k

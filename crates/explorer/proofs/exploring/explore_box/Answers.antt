@@ -1,0 +1,14 @@
+use Rattle.explorer.proofs.Finished.{begins_explored, explored_finished}
+use borrow.Author.Rules.{rules}
+use Rattle.explorer.proofs.exploring.explore_box.Goals as goal
+
+pub run_turns-requires : goal.run_turns-requires
+run_turns-requires c =
+    let r = c.replay-at in
+    begins_explored c.requires _ r.result r.ensures
+
+pub returns : goal.returns
+returns c =
+    let t = c.run_turns in
+    let e = t.ensures in
+    explored_finished e.0 e.1.0 _ _ _ t.auto.1.1.1.1.1.1.1.1.0 c.requires.end e.1.1

@@ -1,0 +1,43 @@
+use Rattle.explorer.proofs.Explored.{explored_moved, explored_halted, explored_dropped}
+use Rattle.explorer.proofs.Resuming.{top_inside, top_entry}
+use Rattle.cuts.specs.Working.Entries.{fork_held}
+use Rattle.forks.specs.Working.Stack.{Fork}
+use mathlib.Core.Bool.{true, false}
+use mathlib.Core.Path.{refl, sym, ap, ◌∙◌}
+use native.Mathlib.Omega.{arith}
+use borrow.Author.Rules.{rules}
+use Rattle.explorer.proofs.turns.rest_turn.Goals as goal
+
+pub returns-then-s-eq0 : goal.returns-then-s-eq0
+returns-then-s-eq0 c =
+    record { onto = λ report e. rw c.halted.ensures (explored_halted e c.requires.1 false c.if-s-eq0.true) }
+
+pub top-f-requires : goal.top-f-requires
+top-f-requires c =
+    top_entry c.requires.0 c.requires.1 (omega (arith, c.if-s-eq0.false))
+
+pub set_interval-requires : goal.set_interval-requires
+set_interval-requires c =
+    let h = c.requires.0 in
+    let n = ap (λ (f : Fork). f.input) c.top-f.ensures in
+    let o = top_inside h c.requires.1 (omega (arith, c.if-s-eq0.false)) in
+    (omega (arith, n, o), omega (arith, n, h.fits.paired, o))
+
+pub returns-then-f : goal.returns-then-f
+returns-then-f c =
+    let f = c.top-f in
+    let i = c.set_interval in
+    record {
+      onto = λ report e.
+          explored_dropped e c.requires.1 (omega (arith, c.if-s-eq0.false)) (fork_held f.result) f.ensures c.if-f.true _ _
+          i.ensures i.auto.0 i.auto.1.0;
+    }
+
+pub returns-then-s-window : goal.returns-then-s-window
+returns-then-s-window c =
+    let unspent = sym (ap (λ (f : Fork). f.spent) c.top-f.ensures) ∙ c.if-f.false in
+    record {
+      onto = λ report e.
+          rw c.halted-then-s-window.ensures
+          (explored_halted e c.requires.1 true (omega (arith, c.if-s-eq0.false), unspent, c.if-s-window.true));
+    }

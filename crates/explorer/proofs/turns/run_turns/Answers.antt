@@ -1,0 +1,22 @@
+use Rattle.pages.proofs.Page.{kept_later}
+use Rattle.pages.specs.Working.Page.{filled}
+use Rattle.explorer.specs.Working.Explored.{Explored}
+use Rattle.explorer.specs.Working.Held.{lists, job_in, work}
+use Rattle.lockstep.specs.Working.LockStep.{machines}
+use lib.ListN.{length, drop}
+use mathlib.Core.Path.{◌≡◌, refl, sym, ◌∙◌}
+use borrow.Author.Rules.{rules}
+use Rattle.explorer.proofs.turns.run_turns.Goals as goal
+
+pub loop-limits-preserved : goal.loop-limits-preserved
+loop-limits-preserved c =
+    let t = c.turn-s in
+    let l = c.loop-limits in
+    let k = t.auto.1.1.1.1.1 in (
+      t.ensures.explored,
+      t.ensures.kept ∙ kept_later c.args.limits.inputs c.args.window l.s.paths t.result.paths _ _ t.ensures.paths l.invariant.1,
+      k.0 ∙ l.invariant.2,
+      k.1.0 ∙ l.invariant.3,
+      k.1.1.0 ∙ l.invariant.4,
+      k.1.1.1.0 ∙ l.invariant.5,
+    )

@@ -1,0 +1,12 @@
+use lib.Dec.{ltb}
+use Rattle.decide.proofs.Decisions.{writes_small}
+use mathlib.Core.Path.{refl}
+use native.Mathlib.Omega.{arith}
+use borrow.Author.Rules.{rules}
+use Rattle.explorer.proofs.turns.step_on.Goals as goal
+
+pub overflow_add-s-2 : goal.overflow_add-s-2
+overflow_add-s-2 c =
+    let a = c.args in
+    let small = writes_small (ltb a.s.at.low.reads a.limits.inputs) a.i in
+    omega (arith, c.requires.1, c.writes-w.ensures, small)
