@@ -5,7 +5,7 @@ ghost use Rattle.blocks.specs.Block as B;
 ghost use Rattle.blocks.specs.Block.{block_bytes, payload_words, word_at, check, block, agrees, checks_agree};
 ghost use Rattle.blocks.specs.Working.Writing.{put};
 
-use crate::words::{put_word, word_at};
+use crate::byte_words::{put_word, word_at};
 use crate::{BLOCK_BYTES, PAYLOAD_WORDS, WORD_BYTES};
 use std::num::wrapping_add_u64;
 

@@ -4,10 +4,10 @@
 #![tactic(auto)]
 
 pub mod block;
+pub mod byte_words;
 pub mod layout;
 pub mod record;
 pub mod report;
-pub mod words;
 
 pub const WORD_BYTES: usize = 8;
 

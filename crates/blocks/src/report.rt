@@ -5,8 +5,8 @@ ghost use Rattle.blocks.specs.Layout as place;
 ghost use Rattle.blocks.specs.Record.{most_inputs, record_words, record_bytes};
 ghost use Rattle.blocks.specs.Report.{records_in, record_at};
 
+use crate::byte_words::word_at;
 use crate::layout::{high_at, low_at};
-use crate::words::word_at;
 use crate::{PATH_BYTES, WORD_BYTES};
 
 // The size of a record: two blocks have places for every count of inputs up to 8.

@@ -11,7 +11,7 @@ use crate::header::{
     CODE_COUNT, FIRST_PATH, GIVEN_COUNT, HIGHS, INPUT_COUNT, LOWS, MARK, MARK_WORD, REST,
     STEP_LIMIT,
 };
-use crate::words::{
+use crate::job_words::{
     blocks_for, blocks_needed, code_payload, code_word, first_code, input_count, intervals_in,
     payload_word, word,
 };

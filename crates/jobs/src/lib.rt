@@ -7,8 +7,8 @@ use calls::Refusal;
 
 mod asking;
 pub mod header;
+pub mod job_words;
 pub mod reading;
-pub mod words;
 
 // The numbers of a job: how many code words and inputs were read, the step limit and the first path.
 #[derive(Clone, Copy)]

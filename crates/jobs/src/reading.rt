@@ -6,7 +6,7 @@ ghost use Rattle.jobs.specs.Working.Reading.{Sized, counts_in, over, left_in, re
 
 use crate::asking::ask_job;
 use crate::header::{CODE_COUNT, FIRST_PATH, GIVEN_COUNT, INPUT_COUNT, STEP_LIMIT};
-use crate::words::{
+use crate::job_words::{
     blocks_for, code_payload, code_word, first_code, input_count, intervals_in, payload_word, word,
 };
 use crate::{Counts, JobAnswer};

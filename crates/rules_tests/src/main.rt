@@ -3,10 +3,10 @@
 // All calls are made on one memory and, but for the case of one entry, on one table.
 #![tactic(auto)]
 
+use blocks::byte_words::word_at;
 use blocks::layout::{
     EXIT_HIGH, EXIT_LOW, HIGHS, INPUTS, KIND, LOWS, NUMBER, PC, READS, REASON, STEPS,
 };
-use blocks::words::word_at;
 use blocks::{BLOCK_WORDS, PATH_BYTES, WORD_BYTES};
 use calls::{Outcome, reply};
 use engine::explore;

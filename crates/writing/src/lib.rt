@@ -8,7 +8,7 @@ ghost use Rattle.writing.specs.Write.{write_outcome};
 
 use calls::{Completion, refusal_number};
 
-mod words;
+mod value_words;
 pub mod writing;
 
 // An answer in numbers, for the C border: the refusal's number or 0, and the bytes written.

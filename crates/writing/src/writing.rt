@@ -10,12 +10,12 @@ ghost use Rattle.writing.specs.Form.{part_blocks, job_form};
 ghost use Rattle.writing.specs.Write.{values_of, values_lent, job_written_on};
 ghost use Rattle.writing.specs.Working.Writing.{Room, values_refusal};
 
-use crate::words::{code_pairs, given_count, header_words};
+use crate::value_words::{code_pairs, given_count, header_words};
 use blocks::block::put_block;
 use blocks::{BLOCK_BYTES, PAYLOAD_WORDS};
 use calls::questions::{code_fits, first_fits, in_order, intervals_fit, limit_fits, memory_fits};
 use calls::{Completion, Questioned, Refusal};
-use jobs::words::{blocks_for, blocks_needed, code_payload, first_code};
+use jobs::job_words::{blocks_for, blocks_needed, code_payload, first_code};
 
 // Writes the block of at most 63 words of a part, those from `first` on.
 fn put_words(job: &mut [u8], at: usize, words: &[u64], first: usize)
