@@ -59,5 +59,5 @@ returns c =
     let p = c.part-below in
     let n = c.note in
     rw c.writes-w.ensures
-    (fork_done c.requires t.result t.ensures k.result k.ensures _ c.advance-to.result p.result.edge refl p.ensures.0
-    n.ensures n.auto.0 (with_run a.lows.now _ a.i _ _ p.ensures.1 c.advance-to.ensures))
+    (fork_done c.requires t.result t.ensures k.result k.ensures _ c.advance-to.result p.result.edge refl p.ensures.fact
+    n.ensures n.auto.table (with_run a.lows.now _ a.i _ _ p.ensures.scratch_value c.advance-to.ensures))

@@ -19,41 +19,41 @@ take_rest-to-requires c =
     let i = c.set_interval in
     let r = c.replay-at in
     let n = c.instruction_at-i in
-    let e = r.new.1.1.1 in
-    takeable c.requires i.new.0 i.new.1.0 i.ensures i.auto.0 i.auto.1.0 (machines e.0 e.1.0 e.1.1.0 e.1.1.1.0 e.1.1.1.1.0 e.1.1.1.1.1.0) r.result r.ensures n.result n.ensures
+    let e = r.new in
+    takeable c.requires i.new.lows i.new.highs i.ensures i.auto.lows i.auto.highs (machines e.low e.lowmem e.high e.highmem e.tags e.tagmem) r.result r.ensures n.result n.ensures
 
 pub overflow_add-f : goal.overflow_add-f
 overflow_add-f c =
     let i = c.set_interval in
     let r = c.replay-at in
     let n = c.instruction_at-i in
-    let e = r.new.1.1.1 in
-    omega (arith, take_steps c.requires i.new.0 i.new.1.0 i.ensures i.auto.0 i.auto.1.0 (machines e.0 e.1.0 e.1.1.0 e.1.1.1.0 e.1.1.1.1.0 e.1.1.1.1.1.0) r.result r.ensures n.result n.ensures, c.well_formed.1.1.1.0)
+    let e = r.new in
+    omega (arith, take_steps c.requires i.new.lows i.new.highs i.ensures i.auto.lows i.auto.highs (machines e.low e.lowmem e.high e.highmem e.tags e.tagmem) r.result r.ensures n.result n.ensures, c.well_formed.1.1.1.0)
 
 pub overflow_add-w : goal.overflow_add-w
 overflow_add-w c =
     let i = c.set_interval in
     let r = c.replay-at in
     let n = c.instruction_at-i in
-    let e = r.new.1.1.1 in
-    omega (arith, take_used c.requires i.new.0 i.new.1.0 i.ensures i.auto.0 i.auto.1.0 (machines e.0 e.1.0 e.1.1.0 e.1.1.1.0 e.1.1.1.1.0 e.1.1.1.1.1.0) r.result r.ensures n.result n.ensures, c.writes-w.ensures, c.well_formed.1.1.1.1.1.1.0.0)
+    let e = r.new in
+    omega (arith, take_used c.requires i.new.lows i.new.highs i.ensures i.auto.lows i.auto.highs (machines e.low e.lowmem e.high e.highmem e.tags e.tagmem) r.result r.ensures n.result n.ensures, c.writes-w.ensures, c.well_formed.1.1.1.1.1.1.0.0)
 
 pub overflow_add-f-2 : goal.overflow_add-f-2
 overflow_add-f-2 c =
     let i = c.set_interval in
     let r = c.replay-at in
     let n = c.instruction_at-i in
-    let e = r.new.1.1.1 in
-    omega (arith, take_used c.requires i.new.0 i.new.1.0 i.ensures i.auto.0 i.auto.1.0 (machines e.0 e.1.0 e.1.1.0 e.1.1.1.0 e.1.1.1.1.0 e.1.1.1.1.1.0) r.result r.ensures n.result n.ensures, c.writes-w.ensures, c.well_formed.1.1.1.1.1.1.0.0)
+    let e = r.new in
+    omega (arith, take_used c.requires i.new.lows i.new.highs i.ensures i.auto.lows i.auto.highs (machines e.low e.lowmem e.high e.highmem e.tags e.tagmem) r.result r.ensures n.result n.ensures, c.writes-w.ensures, c.well_formed.1.1.1.1.1.1.0.0)
 
 pub returns : goal.returns
 returns c =
     let t = c.take_rest-to in
-    let v = t.new.1.1 in
+    let v = t.new in
     let i = c.set_interval in
     let r = c.replay-at in
     let n = c.instruction_at-i in
-    let e = r.new.1.1.1 in
+    let e = r.new in
     rw (c.at_group.ensures, c.writes-w.ensures)
-    (taken_up c.requires i.new.0 i.new.1.0 i.ensures i.auto.0 i.auto.1.0 (machines e.0 e.1.0 e.1.1.0 e.1.1.1.0 e.1.1.1.1.0 e.1.1.1.1.1.0) r.result r.ensures n.result n.ensures
-    (lists v.0 v.1.0 v.1.1.0 (machines v.1.1.1.0 v.1.1.1.1.0 v.1.1.1.1.1.0 v.1.1.1.1.1.1.0 v.1.1.1.1.1.1.1.0 v.1.1.1.1.1.1.1.1.0)) t.result t.auto.1.1.1.1.0 t.ensures)
+    (taken_up c.requires i.new.lows i.new.highs i.ensures i.auto.lows i.auto.highs (machines e.low e.lowmem e.high e.highmem e.tags e.tagmem) r.result r.ensures n.result n.ensures
+    (lists v.lows v.highs v.table (machines v.low v.lowmem v.high v.highmem v.tags v.tagmem)) t.result t.auto.table t.ensures)

@@ -31,10 +31,10 @@ slice_bounds-explore_box-end-2 c =
 pub explore_box-s-requires : goal.explore_box-s-requires
 explore_box-s-requires c =
     rw (c.copied-held.ensures, c.ends-lows.ensures, c.ends-highs.ensures, c.records_in-places.ensures)
-    (call_begins _ _ _ c.args.table.now _ _ _ c.requires (λ k. omega (arith, memory k)) (λ k. omega (arith, intervals k)) c.well_formed.1.1.1.1.1.0.0)
+    (call_begins _ _ _ c.args.table.now _ _ _ c.requires (λ k. omega (arith, c.type_inv.memory k)) (λ k. omega (arith, c.type_inv.intervals k)) c.well_formed.1.1.1.1.1.0.0)
 
 pub returns : goal.returns
 returns c =
     let e = c.explore_box-s in
-    rw (c.Has-more.ensures, c.past-count.ensures, c.clear.ensures, e.auto.1.1.1.1.1.1.1.0)
+    rw (c.has_more-more.ensures, c.past-count.ensures, c.clear.ensures, e.auto.table)
     (call_leaves _ _ _ c.args.table.now _ _ _ c.requires _ e.result (rw c.copied-held.ensures at e.ensures))

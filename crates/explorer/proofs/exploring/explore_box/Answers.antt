@@ -11,4 +11,4 @@ pub returns : goal.returns
 returns c =
     let t = c.run_turns in
     let e = t.ensures in
-    explored_finished e.0 e.1.0 _ _ _ t.auto.1.1.1.1.1.1.1.1.0 c.requires.end e.1.1
+    explored_finished e.fact e.phase_value _ _ _ t.auto.report c.requires.end e.report_value

@@ -7,16 +7,17 @@ use Rattle.explorer.proofs.turns.group_turn.Goals as goal
 
 pub step_on-requires : goal.step_on-requires
 step_on-requires c =
-    let (e, g) = c.requires in
+    let e = c.requires.fact in
+    let g = c.requires.phase_value in
     let n = straight_limits e.held g _ (sym c.decide-d.ensures ∙ c.in-Steps.is) in
     (omega (arith, n.0, e.paged.steps_fit), omega (arith, n.1, c.well_formed.1.1.1.1.1.1.1.0.0))
 
 pub returns-in-Ended : goal.returns-in-Ended
 returns-in-Ended c =
     let p = c.end_path.ensures in
-    rw (p.0, p.1) (explored_ended c.requires.0 c.requires.1 (sym c.decide-d.ensures ∙ c.in-Ended.is))
+    rw (p.value, p.report_value) (explored_ended c.requires.fact c.requires.phase_value (sym c.decide-d.ensures ∙ c.in-Ended.is))
 
 pub returns-in-Steps : goal.returns-in-Steps
 returns-in-Steps c =
     let s = c.step_on in
-    explored_straight c.requires.0 c.requires.1 _ (sym c.decide-d.ensures ∙ c.in-Steps.is) _ s.result s.ensures.0 s.ensures.1
+    explored_straight c.requires.fact c.requires.phase_value _ (sym c.decide-d.ensures ∙ c.in-Steps.is) _ s.result s.ensures.value s.ensures.after_value

@@ -10,17 +10,17 @@ use Rattle.explorer.proofs.turns.rest_turn.Goals as goal
 
 pub returns-then-s-eq0 : goal.returns-then-s-eq0
 returns-then-s-eq0 c =
-    record { onto = λ report e. rw c.halted.ensures (explored_halted e c.requires.1 false c.if-s-eq0.true) }
+    record { onto = λ report e. rw c.halted.ensures (explored_halted e c.requires.phase_value false c.if-s-eq0.true) }
 
 pub top-f-requires : goal.top-f-requires
 top-f-requires c =
-    top_entry c.requires.0 c.requires.1 (omega (arith, c.if-s-eq0.false))
+    top_entry c.requires.fact c.requires.phase_value (omega (arith, c.if-s-eq0.false))
 
 pub set_interval-requires : goal.set_interval-requires
 set_interval-requires c =
-    let h = c.requires.0 in
+    let h = c.requires.fact in
     let n = ap (λ (f : Fork). f.input) c.top-f.ensures in
-    let o = top_inside h c.requires.1 (omega (arith, c.if-s-eq0.false)) in
+    let o = top_inside h c.requires.phase_value (omega (arith, c.if-s-eq0.false)) in
     (omega (arith, n, o), omega (arith, n, h.fits.paired, o))
 
 pub returns-then-f : goal.returns-then-f
@@ -29,8 +29,8 @@ returns-then-f c =
     let i = c.set_interval in
     record {
       onto = λ report e.
-          explored_dropped e c.requires.1 (omega (arith, c.if-s-eq0.false)) (fork_held f.result) f.ensures c.if-f.true _ _
-          i.ensures i.auto.0 i.auto.1.0;
+          explored_dropped e c.requires.phase_value (omega (arith, c.if-s-eq0.false)) (fork_held f.result) f.ensures c.if-f.true _ _
+          i.ensures i.auto.lows i.auto.highs;
     }
 
 pub returns-then-s-window : goal.returns-then-s-window
@@ -39,5 +39,5 @@ returns-then-s-window c =
     record {
       onto = λ report e.
           rw c.halted-then-s-window.ensures
-          (explored_halted e c.requires.1 true (omega (arith, c.if-s-eq0.false), unspent, c.if-s-window.true));
+          (explored_halted e c.requires.phase_value true (omega (arith, c.if-s-eq0.false), unspent, c.if-s-window.true));
     }
