@@ -5,7 +5,6 @@ use mathlib.Core.List.{List}
 use Prim.Native.Nat.{ℕ, ◌+◌, ◌*◌, ◌≤◌, ◌<◌}
 use native.Mathlib.Omega.{arith}
 use lib.ListN.{length, length-set}
-use Rattle.boxes.specs.Boxes.{lows, highs}
 use Rattle.listing.specs.Group.{Job}
 use Rattle.listing.specs.Listing.{Path}
 use Rattle.forks.specs.Working.Stack.{Running}

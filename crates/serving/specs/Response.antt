@@ -1,6 +1,6 @@
 -- What the program prints: `turned away N`, or the listing.
 use Rattle.std.specs.Prelude.{List, ℕ}
-use Rattle.riscu.specs.Lent.{LentList}
+use Rattle.riscu.specs.Lent.{LentList, LentMut}
 use Rattle.calls.specs.Questions.{number}
 use Rattle.calls.specs.Call.{Reply}
 use Rattle.calls.specs.declared.Answer.{Answer}
@@ -22,5 +22,5 @@ abbrev pub response_to : List ℕ → Reply → List ℕ
 response_to job l = response_by (input_count job) l.answer l.report
 
 -- the text for what is lent at the call
-abbrev pub response_on : LentList → LentList → List ℕ
+abbrev pub response_on : LentList → LentMut → List ℕ
 response_on job report = response_to job.entry.now (served_on job report)

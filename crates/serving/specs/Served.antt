@@ -1,7 +1,7 @@
 -- The server's call: job blocks in, a report out, with the program's table and questions, and then 7.
 use Rattle.std.specs.Prelude.{ℕ, List}
 use Rattle.std.proofs.Math.Option.{Option, none, some}
-use Rattle.riscu.specs.Lent.{LentList}
+use Rattle.riscu.specs.Lent.{LentList, LentMut}
 use Rattle.calls.specs.Call.{Reply, reply_to}
 use Rattle.calls.specs.declared.Refusal.{Refusal}
 use Rattle.calls.specs.declared.Answer.{Answer}
@@ -26,5 +26,5 @@ served bytes report = served_by bytes report (job_refusal_of bytes)
 
 -- What is lent at the call, for the contracts.
 
-abbrev pub served_on : LentList → LentList → Reply
+abbrev pub served_on : LentList → LentMut → Reply
 served_on job report = served job.entry.now report.entry.now

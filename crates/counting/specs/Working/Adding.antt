@@ -3,7 +3,7 @@ use Rattle.std.specs.Prelude.{ℕ, ◌+◌, ◌*◌, ◌≤◌, ◌<◌, ◌^◌
 use Rattle.std.proofs.Math.Option.{none}
 use Rattle.boxes.specs.Boxes.{Box, from, size}
 use Rattle.boxes.specs.Working.Cuts.{Proper}
-use Rattle.riscu.specs.Lent.{LentList}
+use Rattle.riscu.specs.Lent.{LentList, LentMut}
 use Rattle.listing.specs.First.{first}
 use Rattle.listing.specs.Group.{Job}
 use Rattle.listing.specs.Listing.{Path}
@@ -106,7 +106,7 @@ pub record AddedTo (vs cs vs' cs' : List ℕ) (used r : ℕ) (p : Entry) : Type 
   pub lists : joined vs' cs' ≡ laid (carried p (take used (joined vs cs))) (joined vs cs)
   pub count : r ≡ length (carried p (take used (joined vs cs)))
 
-abbrev pub Added : LentList → LentList → ℕ → ℕ → Entry → Type 0
+abbrev pub Added : LentMut → LentMut → ℕ → ℕ → Entry → Type 0
 Added vs cs used r p = AddedTo vs.entry.now cs.entry.now vs.exit.now cs.exit.now used r p
 
 -- A job that was read.

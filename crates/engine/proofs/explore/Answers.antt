@@ -1,7 +1,6 @@
 use Rattle.engine.proofs.Refusing.{refused_leaves}
 use mathlib.Core.Path.{sym, ap, ◌∙◌}
 use Rattle.calls.specs.Working.Asking.{refusal_in}
-use borrow.Author.Rules.{rules}
 use Rattle.engine.proofs.explore.Goals as goal
 
 pub returns : goal.returns

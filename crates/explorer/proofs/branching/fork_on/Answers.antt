@@ -1,7 +1,6 @@
 use mathlib.Core.Path.{refl}
 use Rattle.explorer.proofs.Forking.{tag_inside, fork_partable, fork_entry, fork_used, fork_steps, with_run, fork_done}
 use native.Mathlib.Omega.{arith}
-use borrow.Author.Rules.{rules}
 use Rattle.explorer.proofs.branching.fork_on.Goals as goal
 
 pub overflow_add-steps : goal.overflow_add-steps

@@ -2,9 +2,8 @@ use Rattle.explorer.proofs.Resuming.{top_inside, take_steps, take_used, takeable
 use Rattle.explorer.specs.Working.Held.{lists}
 use Rattle.lockstep.specs.Working.LockStep.{machines}
 use Rattle.forks.specs.Working.Stack.{Fork}
-use mathlib.Core.Path.{ap, ◌∙◌}
+use mathlib.Core.Path.{ap}
 use native.Mathlib.Omega.{arith}
-use borrow.Author.Rules.{rules}
 use Rattle.explorer.proofs.branching.resume.Goals as goal
 
 pub set_interval-requires : goal.set_interval-requires

@@ -1,7 +1,6 @@
 use Rattle.explorer.proofs.Accepting.{prefix_fits, prefix_length}
 use Rattle.explorer.proofs.Accepting.{memory_count, end_small, call_begins, call_leaves}
 use native.Mathlib.Omega.{arith}
-use borrow.Author.Rules.{rules}
 use Rattle.explorer.proofs.exploring.accepted.Goals as goal
 
 pub copied-held-requires : goal.copied-held-requires

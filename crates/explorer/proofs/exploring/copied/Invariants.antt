@@ -1,8 +1,6 @@
-use Rattle.boxes.proofs.Filled.{Filled, none_filled, one_filled, all_copied}
+use Rattle.boxes.proofs.Filled.{Filled}
 use lib.ListN.{get_or}
-use mathlib.Core.Path.{refl}
 use Prim.Native.Nat.{◌≤◌, ◌-◌}
-use native.Mathlib.Omega.{arith}
 use Rattle.explorer.proofs.exploring.copied.Given as goal
 
 abbrev pub invariant-loop-k : goal.invariant-loop-k

@@ -1,10 +1,7 @@
-use Rattle.boxes.proofs.Filled.{Filled, none_filled, one_filled, all_filled}
+use Rattle.boxes.proofs.Filled.{Filled}
 use Rattle.blocks.specs.Record.{most_inputs}
 use lib.ListN.{get_or}
-use mathlib.Core.Path.{refl}
 use Prim.Native.Nat.{◌+◌, ◌*◌, ◌≤◌, ◌-◌}
-use native.Mathlib.Omega.{arith}
-use borrow.Author.Rules.{rules}
 use Rattle.explorer.proofs.exploring.ends.Given as goal
 
 abbrev pub invariant-loop-k : goal.invariant-loop-k

@@ -1,5 +1,4 @@
 use Rattle.explorer.proofs.Finished.{begins_explored, explored_finished}
-use borrow.Author.Rules.{rules}
 use Rattle.explorer.proofs.exploring.explore_box.Goals as goal
 
 pub run_turns-requires : goal.run_turns-requires

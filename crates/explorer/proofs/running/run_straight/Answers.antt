@@ -1,5 +1,4 @@
 use Rattle.explorer.proofs.StraightOn.{runs_on}
-use borrow.Author.Rules.{rules}
 use Rattle.explorer.proofs.running.run_straight.Goals as goal
 
 pub returns : goal.returns

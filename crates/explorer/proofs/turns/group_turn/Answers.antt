@@ -1,8 +1,7 @@
-use Rattle.explorer.proofs.Explored.{path_fits, explored_moved, explored_straight, explored_ended}
+use Rattle.explorer.proofs.Explored.{explored_straight, explored_ended}
 use Rattle.explorer.proofs.Straight.{straight_limits}
-use mathlib.Core.Path.{refl, sym, ◌∙◌}
+use mathlib.Core.Path.{sym, ◌∙◌}
 use native.Mathlib.Omega.{arith}
-use borrow.Author.Rules.{rules}
 use Rattle.explorer.proofs.turns.group_turn.Goals as goal
 
 pub step_on-requires : goal.step_on-requires

@@ -1,11 +1,10 @@
-use Rattle.explorer.proofs.Explored.{explored_moved, explored_halted, explored_dropped}
+use Rattle.explorer.proofs.Explored.{explored_halted, explored_dropped}
 use Rattle.explorer.proofs.Resuming.{top_inside, top_entry}
 use Rattle.cuts.specs.Working.Entries.{fork_held}
 use Rattle.forks.specs.Working.Stack.{Fork}
 use mathlib.Core.Bool.{true, false}
-use mathlib.Core.Path.{refl, sym, ap, ◌∙◌}
+use mathlib.Core.Path.{sym, ap, ◌∙◌}
 use native.Mathlib.Omega.{arith}
-use borrow.Author.Rules.{rules}
 use Rattle.explorer.proofs.turns.rest_turn.Goals as goal
 
 pub returns-then-s-eq0 : goal.returns-then-s-eq0

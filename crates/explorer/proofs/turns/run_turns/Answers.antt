@@ -1,11 +1,5 @@
 use Rattle.pages.proofs.Page.{kept_later}
-use Rattle.pages.specs.Working.Page.{filled}
-use Rattle.explorer.specs.Working.Explored.{Explored}
-use Rattle.explorer.specs.Working.Held.{lists, job_in, work}
-use Rattle.lockstep.specs.Working.LockStep.{machines}
-use lib.ListN.{length, drop}
-use mathlib.Core.Path.{◌≡◌, refl, sym, ◌∙◌}
-use borrow.Author.Rules.{rules}
+use mathlib.Core.Path.{◌∙◌}
 use Rattle.explorer.proofs.turns.run_turns.Goals as goal
 
 pub loop-limits-preserved : goal.loop-limits-preserved

@@ -1,11 +1,9 @@
-use Rattle.pages.proofs.Page.{kept_later}
 use Rattle.pages.specs.Working.Page.{filled}
 use Rattle.explorer.specs.Working.Explored.{Explored}
 use Rattle.explorer.specs.Working.Held.{lists, job_in, work}
 use Rattle.lockstep.specs.Working.LockStep.{machines}
 use lib.ListN.{length, drop}
-use mathlib.Core.Path.{◌≡◌, refl, sym, ◌∙◌}
-use borrow.Author.Rules.{rules}
+use mathlib.Core.Path.{◌≡◌}
 use Rattle.explorer.proofs.turns.run_turns.Given as goal
 
 abbrev pub invariant-loop-limits : goal.invariant-loop-limits

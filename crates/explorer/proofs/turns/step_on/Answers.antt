@@ -1,8 +1,6 @@
 use lib.Dec.{ltb}
 use Rattle.decide.proofs.Decisions.{writes_small}
-use mathlib.Core.Path.{refl}
 use native.Mathlib.Omega.{arith}
-use borrow.Author.Rules.{rules}
 use Rattle.explorer.proofs.turns.step_on.Goals as goal
 
 pub overflow_add-s-2 : goal.overflow_add-s-2

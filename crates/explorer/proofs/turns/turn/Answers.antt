@@ -1,7 +1,6 @@
-use Rattle.explorer.proofs.Phases.{group_phase, between_phase}
+use Rattle.explorer.proofs.Phases.{group_phase}
 use Rattle.explorer.proofs.Explored.{turned_later}
 use mathlib.Core.Path.{refl, sym, ◌∙◌}
-use borrow.Author.Rules.{rules}
 use Rattle.explorer.proofs.turns.turn.Goals as goal
 
 pub group_turn-requires : goal.group_turn-requires

@@ -1,0 +1,32 @@
+-- `serving::respond` meets its contract: the text of what the served call leaves.
+-- Assumes nothing.
+use borrow.Author.Rules.{rules}
+use mathlib.Core.Path.{refl, sym, ap}
+use native.Mathlib.Omega.{arith}
+use Rattle.jobs.proofs.Asked.{yes_sized}
+use Rattle.serving.specs.Response.{response_by}
+use Rattle.calls.specs.Call.{Reply, is_page}
+use Rattle.serving.proofs.JobPassed.{listed_passes, listed_fits}
+use Rattle.serving.proofs.respond.Goals as goal
+
+pub input_count-inputs-requires : goal.input_count-inputs-requires
+unfolding is_page
+input_count-inputs-requires c =
+    let e = rw c.in-Page.is at c.serve-a.ensures in
+    (yes_sized _ (listed_passes _ _ (ap (λ (y : Reply). is_page y.answer) (sym e)))).whole
+
+pub print_listing-requires : goal.print_listing-requires
+unfolding is_page
+print_listing-requires c =
+    let call = c.serve-a in
+    let e = rw c.in-Page.is at call.ensures in
+    let few = (yes_sized _ (listed_passes _ _ (ap (λ (y : Reply). is_page y.answer) (sym e)))).inputs in
+    (omega (arith, listed_fits _ _ _ e, call.auto.1.0), rw c.input_count-inputs.ensures few)
+
+pub returns-in-Refused : goal.returns-in-Refused
+unfolding response_by
+returns-in-Refused c = rw (← c.serve-a.ensures, c.in-Refused.is, ← c.refusal_number.ensures) (let e = c.print_refusal.ensures in (e.0, (e.1, refl)))
+
+pub returns-in-Page : goal.returns-in-Page
+unfolding response_by
+returns-in-Page c = rw (← c.serve-a.ensures, c.in-Page.is, ← c.input_count-inputs.ensures) (let e = c.print_listing.ensures in (e.0, (e.1, refl)))
