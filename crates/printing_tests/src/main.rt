@@ -10,6 +10,10 @@ use blocks::PATH_BYTES;
 use blocks::record::{Ended, put_path};
 use listing::End;
 use printing::print_listing;
+use std::io;
+
+// How many bytes of text there is room for.
+const ROOM: usize = 4096;
 
 // A path of Job A: one input, and its exit value in register 10.
 fn put_exit(report: &mut [u8], at: usize, number: u64, low: u64, high: u64, value: u64)
@@ -27,11 +31,12 @@ fn put_exit(report: &mut [u8], at: usize, number: u64, low: u64, high: u64, valu
     put_path(report, at, p, &[low], &[high], &registers, &registers);
 }
 
-fn main() {
+// A write that fails ends it with that error.
+fn main(rt: HostRuntime) -> io::Result<()> {
     let mut report = [0u8; 2 * PATH_BYTES];
     put_exit(&mut report, 0, 0, 0, 9, 1);
     put_exit(&mut report, PATH_BYTES, 1, 10, 255, 0);
-    let mut out = io::buffer();
+    let mut out = [0u8; ROOM];
     let n = print_listing(&report, 1, 2, false, &mut out);
-    io::write_all(1, &out[..n]);
+    rt.write_all(&out[..n])
 }

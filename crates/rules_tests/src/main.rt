@@ -10,6 +10,7 @@ use blocks::layout::{
 use blocks::{BLOCK_WORDS, PATH_BYTES, WORD_BYTES};
 use calls::{Outcome, reply};
 use engine::explore;
+use std::io;
 
 // One path more than any of these cases has.
 const REPORT: usize = 4 * PATH_BYTES;
@@ -36,110 +37,119 @@ fn word(report: &[u8], path: usize, place: usize) -> u64 {
     word_at(report, at)
 }
 
-fn print_number(label: &[u8], n: u64) {
-    io::write_all(1, label);
-    io::print_decimal(1, n);
+fn print_number(rt: &impl Print, label: &str, n: u64) -> io::Result<()> {
+    print!(rt; "{label}{n}")
 }
 
-fn print_interval(label: &[u8], low: u64, high: u64) {
-    print_number(label, low);
-    print_number(b"..", high);
+fn print_interval(rt: &impl Print, label: &str, low: u64, high: u64) -> io::Result<()> {
+    print!(rt; "{label}{low}..{high}")
 }
 
 // At most two inputs are in these cases.
-fn print_inputs(report: &[u8], path: usize) {
+fn print_inputs(rt: &impl Print, report: &[u8], path: usize) -> io::Result<()> {
     let inputs = word(report, path, INPUTS);
     if 0 < inputs {
-        print_interval(b" in ", word(report, path, LOWS), word(report, path, HIGHS));
+        print_interval(
+            rt,
+            " in ",
+            word(report, path, LOWS),
+            word(report, path, HIGHS),
+        )?;
     }
     if 1 < inputs {
         print_interval(
-            b" in ",
+            rt,
+            " in ",
             word(report, path, LOWS + 1),
             word(report, path, HIGHS + 1),
-        );
+        )?;
     }
+    Ok(())
 }
 
-fn print_registers(report: &[u8], path: usize) {
+fn print_registers(rt: &impl Print, report: &[u8], path: usize) -> io::Result<()> {
     let mut r: usize = 1;
     while r < 32 {
         let low = word(report, path, REGISTERS + 2 * r);
         let high = word(report, path, BLOCK_WORDS + 2 * r);
         if (low != 0) | (high != 0) {
-            print_number(b" x", r as u64);
-            print_interval(b" ", low, high);
+            print_number(rt, " x", r as u64)?;
+            print_interval(rt, " ", low, high)?;
         }
         r += 1;
     }
+    Ok(())
 }
 
 // A path, in document 01's form, and below it what that leaves out.
-fn print_path(report: &[u8], path: usize) {
+fn print_path(rt: &impl Print, report: &[u8], path: usize) -> io::Result<()> {
     let kind = word(report, path, KIND);
-    print_number(b"path ", word(report, path, NUMBER));
-    print_number(b" end ", kind);
-    print_number(b" at ", word(report, path, PC));
-    print_number(b" steps ", word(report, path, STEPS));
-    print_inputs(report, path);
+    print_number(rt, "path ", word(report, path, NUMBER))?;
+    print_number(rt, " end ", kind)?;
+    print_number(rt, " at ", word(report, path, PC))?;
+    print_number(rt, " steps ", word(report, path, STEPS))?;
+    print_inputs(rt, report, path)?;
     if kind == 1 {
         print_interval(
-            b" exit ",
+            rt,
+            " exit ",
             word(report, path, EXIT_LOW),
             word(report, path, EXIT_HIGH),
-        );
+        )?;
     }
     if kind == 8 {
-        print_number(b" reason ", word(report, path, REASON));
+        print_number(rt, " reason ", word(report, path, REASON))?;
     }
-    print_number(b"\n    read ", word(report, path, READS));
-    print_registers(report, path);
-    io::write_all(1, b"\n");
+    print_number(rt, "\n    read ", word(report, path, READS))?;
+    print_registers(rt, report, path)?;
+    println!(rt)
 }
 
 // At most three paths are in these cases.
-fn print_paths(report: &[u8], count: u64) {
+fn print_paths(rt: &impl Print, report: &[u8], count: u64) -> io::Result<()> {
     if 0 < count {
-        print_path(report, 0);
+        print_path(rt, report, 0)?;
     }
     if 1 < count {
-        print_path(report, 1);
+        print_path(rt, report, 1)?;
     }
     if 2 < count {
-        print_path(report, 2);
+        print_path(rt, report, 2)?;
     }
+    Ok(())
 }
 
-fn print_listing(o: Outcome, report: &[u8]) {
+fn print_listing(rt: &impl Print, o: Outcome, report: &[u8]) -> io::Result<()> {
     if o.refused != 0 {
-        print_number(b"turned away ", o.refused);
+        print_number(rt, "turned away ", o.refused)?;
     } else {
-        print_number(b"paths ", o.count);
-        print_number(b" more ", o.more);
+        print_number(rt, "paths ", o.count)?;
+        print_number(rt, " more ", o.more)?;
     }
-    io::write_all(1, b"\n");
-    print_paths(report, o.count);
+    println!(rt)?;
+    print_paths(rt, report, o.count)
 }
 
 // A job, its name and its listing.
 fn try_job(
-    name: &[u8],
+    rt: &impl Print,
+    name: &str,
     code: &[u32],
     memory: &[u64],
     intervals: &[u64],
     limit: u64,
     table: &mut [u64],
-) {
-    io::write_all(1, name);
+) -> io::Result<()> {
+    println!(rt; "{name}")?;
     let mut report = [0u8; REPORT];
     let a = explore(code, memory, intervals, limit, table, &mut report, 0);
-    print_listing(reply(a), &report);
+    print_listing(rt, reply(a), &report)
 }
 
 // The programs read one input v into register 5, or a second one into register 6, put a value into register 10 and exit with it.
 
 // Job A, and with lower limits.
-fn job_a(memory: &[u64], table: &mut [u64]) {
+fn job_a(rt: &impl Print, memory: &[u64], table: &mut [u64]) -> io::Result<()> {
     let code = [
         0x03F00893u32,
         0x00800613,
@@ -151,12 +161,12 @@ fn job_a(memory: &[u64], table: &mut [u64]) {
         0x00000073,
     ];
     let v = [0u64, 255];
-    try_job(b"Job A\n", &code, memory, &v, 100, table);
-    try_job(b"limit 5\n", &code, memory, &v, 5, table);
-    try_job(b"limit 7\n", &code, memory, &v, 7, table);
+    try_job(rt, "Job A", &code, memory, &v, 100, table)?;
+    try_job(rt, "limit 5", &code, memory, &v, 5, table)?;
+    try_job(rt, "limit 7", &code, memory, &v, 7, table)
 }
 
-fn ten_less(memory: &[u64], table: &mut [u64]) {
+fn ten_less(rt: &impl Print, memory: &[u64], table: &mut [u64]) -> io::Result<()> {
     let code = [
         0x03F00893u32,
         0x00800613,
@@ -170,10 +180,10 @@ fn ten_less(memory: &[u64], table: &mut [u64]) {
         0x00000073,
     ];
     let v = [0u64, 255];
-    try_job(b"10 - v < 1\n", &code, memory, &v, 100, table);
+    try_job(rt, "10 - v < 1", &code, memory, &v, 100, table)
 }
 
-fn plus_5(memory: &[u64], table: &mut [u64]) {
+fn plus_5(rt: &impl Print, memory: &[u64], table: &mut [u64]) -> io::Result<()> {
     let code = [
         0x03F00893u32,
         0x00800613,
@@ -184,11 +194,17 @@ fn plus_5(memory: &[u64], table: &mut [u64]) {
         0x00000073,
     ];
     let v = [0u64, 18446744073709551615];
-    try_job(b"0..MAX plus 5\n", &code, memory, &v, 100, table);
+    try_job(rt, "0..MAX plus 5", &code, memory, &v, 100, table)
 }
 
 // 0..2^63 times a factor, which one word of the code loads.
-fn times(name: &[u8], load: u32, memory: &[u64], table: &mut [u64]) {
+fn times(
+    rt: &impl Print,
+    name: &str,
+    load: u32,
+    memory: &[u64],
+    table: &mut [u64],
+) -> io::Result<()> {
     let code = [
         0x03F00893u32,
         0x00800613,
@@ -200,10 +216,10 @@ fn times(name: &[u8], load: u32, memory: &[u64], table: &mut [u64]) {
         0x00000073,
     ];
     let v = [0u64, 9223372036854775808];
-    try_job(name, &code, memory, &v, 100, table);
+    try_job(rt, name, &code, memory, &v, 100, table)
 }
 
-fn mod_5(memory: &[u64], table: &mut [u64]) {
+fn mod_5(rt: &impl Print, memory: &[u64], table: &mut [u64]) -> io::Result<()> {
     let code = [
         0x03F00893u32,
         0x00800613,
@@ -217,13 +233,13 @@ fn mod_5(memory: &[u64], table: &mut [u64]) {
     let six = [3u64, 6];
     let seven = [3u64, 7];
     let ten = [0u64, 10];
-    try_job(b"3..6 mod 5\n", &code, memory, &six, 100, table);
-    try_job(b"3..7 mod 5\n", &code, memory, &seven, 100, table);
-    try_job(b"0..10 mod 5\n", &code, memory, &ten, 100, table);
+    try_job(rt, "3..6 mod 5", &code, memory, &six, 100, table)?;
+    try_job(rt, "3..7 mod 5", &code, memory, &seven, 100, table)?;
+    try_job(rt, "0..10 mod 5", &code, memory, &ten, 100, table)
 }
 
 // Two inputs that are fixed.
-fn fixed_sum(memory: &[u64], table: &mut [u64]) {
+fn fixed_sum(rt: &impl Print, memory: &[u64], table: &mut [u64]) -> io::Result<()> {
     let code = [
         0x03F00893u32,
         0x00800613,
@@ -237,10 +253,10 @@ fn fixed_sum(memory: &[u64], table: &mut [u64]) {
         0x00000073,
     ];
     let v = [5u64, 5, 5, 5];
-    try_job(b"5..5 plus 5..5\n", &code, memory, &v, 100, table);
+    try_job(rt, "5..5 plus 5..5", &code, memory, &v, 100, table)
 }
 
-fn less_0(memory: &[u64], table: &mut [u64]) {
+fn less_0(rt: &impl Print, memory: &[u64], table: &mut [u64]) -> io::Result<()> {
     let code = [
         0x03F00893u32,
         0x00800613,
@@ -251,11 +267,11 @@ fn less_0(memory: &[u64], table: &mut [u64]) {
         0x00000073,
     ];
     let v = [0u64, 255];
-    try_job(b"v < 0\n", &code, memory, &v, 100, table);
+    try_job(rt, "v < 0", &code, memory, &v, 100, table)
 }
 
 // A loop of ten turns, each with the test.
-fn ten_times(memory: &[u64], table: &mut [u64]) {
+fn ten_times(rt: &impl Print, memory: &[u64], table: &mut [u64]) -> io::Result<()> {
     let code = [
         0x03F00893u32,
         0x00800613,
@@ -271,11 +287,11 @@ fn ten_times(memory: &[u64], table: &mut [u64]) {
         0x00000073,
     ];
     let v = [0u64, 255];
-    try_job(b"v < 5 ten times\n", &code, memory, &v, 100, table);
+    try_job(rt, "v < 5 ten times", &code, memory, &v, 100, table)
 }
 
 // Job A on a table of one entry.
-fn one_entry(memory: &[u64], table: &mut [u64]) {
+fn one_entry(rt: &impl Print, memory: &[u64], table: &mut [u64]) -> io::Result<()> {
     let code = [
         0x03F00893u32,
         0x00800613,
@@ -287,21 +303,22 @@ fn one_entry(memory: &[u64], table: &mut [u64]) {
         0x00000073,
     ];
     let v = [0u64, 255];
-    try_job(b"one entry of table\n", &code, memory, &v, 100, table);
+    try_job(rt, "one entry of table", &code, memory, &v, 100, table)
 }
 
-fn main() {
+// A write that fails ends it with that error.
+fn main(rt: HostRuntime) -> io::Result<()> {
     let memory = [0u64; 512];
     let mut table = [0u64; 8192];
     let mut entry = [0u64; 8];
-    job_a(&memory, &mut table);
-    ten_less(&memory, &mut table);
-    plus_5(&memory, &mut table);
-    times(b"0..2^63 times 2\n", 0x00200313, &memory, &mut table);
-    times(b"0..2^63 times 4\n", 0x00400313, &memory, &mut table);
-    mod_5(&memory, &mut table);
-    fixed_sum(&memory, &mut table);
-    less_0(&memory, &mut table);
-    one_entry(&memory, &mut entry);
-    ten_times(&memory, &mut table);
+    job_a(&rt, &memory, &mut table)?;
+    ten_less(&rt, &memory, &mut table)?;
+    plus_5(&rt, &memory, &mut table)?;
+    times(&rt, "0..2^63 times 2", 0x00200313, &memory, &mut table)?;
+    times(&rt, "0..2^63 times 4", 0x00400313, &memory, &mut table)?;
+    mod_5(&rt, &memory, &mut table)?;
+    fixed_sum(&rt, &memory, &mut table)?;
+    less_0(&rt, &memory, &mut table)?;
+    one_entry(&rt, &memory, &mut entry)?;
+    ten_times(&rt, &memory, &mut table)
 }

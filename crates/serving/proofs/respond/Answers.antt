@@ -21,12 +21,12 @@ print_listing-requires c =
     let call = c.serve-a in
     let e = rw c.in-Page.is at call.ensures in
     let few = (yes_sized _ (listed_passes _ _ (ap (λ (y : Reply). is_page y.answer) (sym e)))).inputs in
-    (omega (arith, listed_fits _ _ _ e, call.auto.1.0), rw c.input_count-inputs.ensures few)
+    (omega (arith, listed_fits _ _ _ e, call.auto.report), rw c.input_count-inputs.ensures few)
 
 pub returns-in-Refused : goal.returns-in-Refused
 unfolding response_by
-returns-in-Refused c = rw (← c.serve-a.ensures, c.in-Refused.is, ← c.refusal_number.ensures) (let e = c.print_refusal.ensures in (e.0, (e.1, refl)))
+returns-in-Refused c = rw (← c.serve-a.ensures, c.in-Refused.is, ← c.refusal_number.ensures) (let e = c.print_refusal.ensures in record { text = e.0; size = e.1; bytes = refl })
 
 pub returns-in-Page : goal.returns-in-Page
 unfolding response_by
-returns-in-Page c = rw (← c.serve-a.ensures, c.in-Page.is, ← c.input_count-inputs.ensures) (let e = c.print_listing.ensures in (e.0, (e.1, refl)))
+returns-in-Page c = rw (← c.serve-a.ensures, c.in-Page.is, ← c.input_count-inputs.ensures) (let e = c.print_listing.ensures in record { text = e.0; size = e.1; bytes = refl })
