@@ -1,5 +1,6 @@
 # Sourced by the scripts that prove and build; its file names are those from the top of the repository.
 archive=target/staticlib/libmirokefa_c.a
+program=crates/mirokefa/out/mirokefa # where rt leaves it
 formats=target/tool/libformats.rlib
 tool=target/tool/mirokefa-job
 rust_checked=(rustc --edition 2021 -D warnings) # compiled sooner, and a sum that overflows stops it
@@ -29,6 +30,17 @@ build_tool() { # the oracle's plain machine is a part of it
     build_formats
     if stale "$tool" tool host/oracle.rs "$formats" "$archive"; then
         "${rust[@]}" "${with_library[@]}" -o "$tool" tool/mirokefa-job.rs
+    fi
+}
+
+build_program() { # by a run on its own stored job; rt ci leaves it behind too
+    if stale "$program" crates.txt crates/*/{src,specs,proofs}; then
+        host/prove
+        if ! (cd crates/mirokefa && rt run < stdin) > target/program.log 2>&1; then
+            tail -n 20 target/program.log
+            echo "$program is not built; target/program.log has all that the prover says" >&2
+            exit 1
+        fi
     fi
 }
 

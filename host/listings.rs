@@ -245,24 +245,24 @@ const HEAD: &str = "\
 -- Small jobs with their whole listings, computed by the moves over all the choices of a box. The program host/listings.rs
 -- writes this file: what is expected comes from the brute-force oracle there, which knows documents 01 and 02 alone.
 -- Assumes nothing.
-use mathlib.Core.Path.{_≡_, refl}
-use mathlib.Core.List.{List, [], _∷_, _++_, map, flatMap}
-use Prim.Native.Nat.{ℕ, _-_, _^_}
+use mathlib.Core.Path.{◌≡◌, refl}
+use mathlib.Core.List.{List, [], ◌∷◌, ◌++◌, map, flat_map}
+use Prim.Native.Nat.{ℕ, ◌-◌, ◌^◌}
 use lib.ListN.{length, set, replicate}
-use Rattle·boxes.specs.Boxes.{Box, Interval, _⋯_, from, width, values, choices, size}
-use Rattle·boxes.specs.Boxes.{best, least, greatest, every, same, low, high, fixed}
-use Rattle·boxes.specs.Boxes.{keep, classes, hull, piece, pieces}
-use Rattle·words.specs.Word.{signed, widen}
-use Rattle·riscu.specs.Decode.{rows, search, decodeOf}
-use Rattle·riscu.specs.Machine.{start, operate, readNext, step, fetch, stepDecoded, run}
-use Rattle·listing·specs.specs.Group.{Job, after, sortOf, comparison, sortingOf, classBy, classOf}
-use Rattle·listing·specs.specs.Ending.{first, operationPoints, operandPoints, addressPoints, points}
-use Rattle·listing·specs.specs.Ending.{writes, needs, endAt, endBy}
-use Rattle·listing·specs.specs.Listing.{Path, pathOf, splitBy, moveBy, moveFrom, moves, begin, enough, listing}
-use Rattle·listing·specs.specs.declared.Reason.the-variants.{BothOpen, DivisorOpen, Quotients, BaseOpen, CallOpen}
-use Rattle·listing·specs.specs.declared.End.{End}
-use Rattle·listing·specs.specs.declared.End.the-variants.{Exit, BadPc, BadWord, BadAddress}
-use Rattle·listing·specs.specs.declared.End.the-variants.{BadCall, StepLimit, NotFollowed, TraceFull}
+use Rattle.boxes.specs.Boxes.{Box, Interval, ◌⋯◌, from, width, values, choices, size}
+use Rattle.boxes.specs.Boxes.{best, least, greatest, every, same, low, high, fixed}
+use Rattle.boxes.specs.Boxes.{keep, classes, hull, piece, pieces}
+use Rattle.words.specs.Word.{signed, widen}
+use Rattle.riscu.specs.Decode.{rows, search, decode_of}
+use Rattle.riscu.specs.Machine.{start, operate, read_next, step, fetch, step_decoded, run}
+use Rattle.listing.specs.Group.{Job, after, sort_of, comparison, sorting_of, class_by, class_of}
+use Rattle.listing.specs.Ending.{first, operation_points, operand_points, address_points, points}
+use Rattle.listing.specs.Ending.{writes, needs, end_at, end_by}
+use Rattle.listing.specs.Listing.{Path, path_of, split_by, move_by, move_from, moves, begin, enough, listing}
+use Rattle.listing.specs.declared.Reason.TheVariants.{BothOpen, DivisorOpen, Quotients, BaseOpen, CallOpen}
+use Rattle.listing.specs.declared.End.{End}
+use Rattle.listing.specs.declared.End.TheVariants.{Exit, BadPc, BadWord, BadAddress}
+use Rattle.listing.specs.declared.End.TheVariants.{BadCall, StepLimit, NotFollowed, TraceFull}
 
 abbrev top : ℕ
 top = 2 ^ 64 - 1
@@ -290,18 +290,18 @@ example c m l b n ps =
 
 const TAIL: &str = "
 abbrev listed : Job × List Path → List Path
-listed x = listing (x .0)
+listed x = listing x.0
 
 abbrev expected : Job × List Path → List Path
-expected x = x .1
+expected x = x.1
 
 -- the whole table, by one computation
-pub examples-right : map listed table ≡ map expected table
-unfolding listing enough moves moveFrom moveBy splitBy pathOf begin
-    endBy endAt needs writes points addressPoints operandPoints operationPoints first
-    from width values choices flatMap size best least greatest every same low high fixed keep classes hull piece pieces
-    classOf classBy sortingOf sortOf comparison after run stepDecoded fetch step readNext operate start decodeOf search rows signed widen
-examples-right = refl
+pub examples_right : map listed table ≡ map expected table
+unfolding listing enough moves move_from move_by split_by path_of begin
+    end_by end_at needs writes points address_points operand_points operation_points first
+    from width values choices flat_map size best least greatest every same low high fixed keep classes hull piece pieces
+    class_of class_by sorting_of sort_of comparison after run step_decoded fetch step read_next operate start decode_of search rows signed widen
+examples_right = refl
 ";
 
 // ---------------------------------------------------------------------------------------------

@@ -1,5 +1,5 @@
 // Blocks of 512 bytes, as document 01 lays them out; what a reader must believe stands in specs/ outside Working/.
-// `words` reads and writes one word, `block` the check and a whole block, `record` writes an ended path's two blocks, `report` reads them back.
+// `byte_words` reads and writes one word, `block` the check and a whole block, `record` writes an ended path's two blocks, `report` reads them back.
 // The laws say that what is written is what is read, and that the check tells a changed word.
 #![tactic(auto)]
 

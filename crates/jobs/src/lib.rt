@@ -1,5 +1,5 @@
 // A job in blocks of 512 bytes, as document 01 lays it out; what a reader must believe stands in specs/ outside Working/.
-// `words` finds the words of a job's parts, `asking` asks the questions on it, `reading` copies what an accepted job holds.
+// `job_words` finds the words of a job's parts, `asking` asks the questions on it, `reading` copies what an accepted job holds.
 // A refused job changes nothing that is lent.
 #![tactic(auto)]
 

@@ -1,5 +1,5 @@
 // A job written in blocks, for the rule editor: document 02's call; what a reader must believe stands in specs/ outside Working/.
-// `words` has the words of a job's header and parts, `writing` puts them into blocks and has the call.
+// `value_words` has the words of a job's header and parts, `writing` puts them into blocks and has the call.
 // The laws say that the reader gets back what was written, and that a job has one such form; a refused call writes nothing.
 #![tactic(auto)]
 

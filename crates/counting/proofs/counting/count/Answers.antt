@@ -1,0 +1,30 @@
+-- `counting::counting::count` meets its contract: the job's own questions by the reader, and then what was read.
+-- Assumes nothing.
+use mathlib.Core.Path.{◌≡◌, ap, ◌∙◌}
+use Prim.Native.Nat.{ℕ, ◌*◌}
+use lib.ListN.{length, replicate, length-replicate}
+use Rattle.riscu.specs.Limits.{code_words}
+use Rattle.blocks.specs.Record.{most_inputs}
+use Rattle.serving.proofs.JobPassed.{read_refused, read_passed, code_length, intervals_length, memory_length}
+use Rattle.counting.specs.Working.Adding.{counted_job}
+use Rattle.counting.proofs.Read.{job_refused, job_counted, job_is, job_passed}
+use native.Mathlib.Omega.{arith}
+use borrow.Author.Rules.{rules}
+use Rattle.counting.proofs.counting.count.Goals as goal
+
+code_size : length (replicate {A = ℕ} code_words 0) ≡ code_words
+code_size = length-replicate {A = ℕ} code_words 0
+
+intervals_size : length (replicate {A = ℕ} (2 * most_inputs) 0) ≡ 2 * most_inputs
+intervals_size = length-replicate {A = ℕ} (2 * most_inputs) 0
+
+pub count_read-requires : goal.count_read-requires
+count_read-requires c = job_passed _ _ _ _ _ _ _ (read_passed c.args.job.now _ _ _ _ _ _ (rw c.in-Read.is at c.read_job-answer.ensures)) code_size intervals_size (λ i. omega (arith, c.shared_slice_known-1.given i))
+
+pub returns-in-Refused : goal.returns-in-Refused
+returns-in-Refused c = c.turned_away.ensures ∙ job_refused _ (read_refused c.args.job.now _ _ _ _ _ _ (rw c.in-Refused.is at c.read_job-answer.ensures))
+
+pub returns-in-Read : goal.returns-in-Read
+returns-in-Read c =
+    let o = read_passed c.args.job.now _ _ _ _ _ _ (rw c.in-Read.is at c.read_job-answer.ensures) in
+    c.count_read.ensures ∙ ap counted_job (job_is _ _ _ _ _ _ _ o code_size intervals_size) ∙ job_counted _ o.passes
