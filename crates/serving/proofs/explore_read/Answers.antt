@@ -1,9 +1,7 @@
-use Rattle.jobs.proofs.Accepted.{front_length}
 use Rattle.serving.proofs.JobPassed.{explored_reply}
 use lib.ListN.{length-replicate}
 use Prim.Native.Nat.{ℕ}
 use Rattle.serving.specs.Served.{table_words}
-use borrow.Author.Rules.{rules}
 use Rattle.serving.proofs.explore_read.Goals as goal
 
 pub returns : goal.returns

@@ -1,6 +1,5 @@
 -- `serving::respond` meets its contract: the text of what the served call leaves.
 -- Assumes nothing.
-use borrow.Author.Rules.{rules}
 use mathlib.Core.Path.{refl, sym, ap}
 use native.Mathlib.Omega.{arith}
 use Rattle.jobs.proofs.Asked.{yes_sized}

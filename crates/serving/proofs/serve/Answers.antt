@@ -1,11 +1,10 @@
-use Rattle.serving.proofs.JobPassed.{read_refused, read_passed, code_few, inputs_few, code_length, intervals_length, memory_length, served_open, served_refused}
+use Rattle.serving.proofs.JobPassed.{read_refused, read_passed, code_few, inputs_few, code_length, intervals_length, served_open, served_refused}
 use mathlib.Core.Path.{◌≡◌, sym}
 use lib.ListN.{length, replicate, length-replicate}
 use Prim.Native.Nat.{ℕ, ◌*◌}
 use Rattle.riscu.specs.Limits.{code_words}
 use Rattle.blocks.specs.Record.{most_inputs}
 use native.Mathlib.Omega.{arith}
-use borrow.Author.Rules.{rules}
 use Rattle.serving.proofs.serve.Goals as goal
 
 code_size : length (replicate {A = ℕ} code_words 0) ≡ code_words

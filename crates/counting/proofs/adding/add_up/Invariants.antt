@@ -1,12 +1,9 @@
 -- `counting::adding::add_up` meets its contract: the records from the last to the first, each added where it belongs.
 -- Assumes nothing.
-use mathlib.Core.Path.{◌≡◌, subst}
-use Prim.Native.Nat.{ℕ, ◌-◌, ◌≤◌}
-use native.Mathlib.Omega.{arith}
-use borrow.Author.Rules.{rules}
+use Prim.Native.Nat.{◌≤◌}
 use lib.ListN.{drop}
 use Rattle.counting.specs.Working.Adding.{parts_in}
-use Rattle.counting.proofs.Summed.{Summed, none_summed, kind_fits, varying_fits, value_room, other_summed, varying_summed, fixed_summed, all_left, next, next_fits, next_few, kind_below, size_countable, all_summed}
+use Rattle.counting.proofs.Summed.{Summed}
 use Rattle.counting.proofs.adding.add_up.Given as goal
 
 abbrev pub invariant-loop-k : goal.invariant-loop-k

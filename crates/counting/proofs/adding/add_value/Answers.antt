@@ -1,11 +1,8 @@
 -- `counting::adding::add_value` meets its contract: the entry at hand goes along the places, and changes with each greater one.
 -- Assumes nothing.
-use mathlib.Core.Path.{◌≡◌, refl}
-use Prim.Native.Nat.{◌-◌, ◌≤◌}
 use native.Mathlib.Omega.{arith}
-use lib.ListN.{length, take, length-set}
-use Rattle.counting.specs.Working.Adding.{entry, joined, carried, laid}
-use Rattle.counting.proofs.Sliding.{Going, turn_fits, turn_passed, turn_swapped, turn_hit, turn_ended}
+use lib.ListN.{length-set}
+use Rattle.counting.proofs.Sliding.{turn_fits, turn_passed, turn_swapped, turn_hit, turn_ended}
 use Rattle.counting.proofs.adding.add_value.Goals as goal
 
 pub overflow_add-choices : goal.overflow_add-choices

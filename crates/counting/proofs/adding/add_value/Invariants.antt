@@ -1,11 +1,10 @@
 -- `counting::adding::add_value` meets its contract: the entry at hand goes along the places, and changes with each greater one.
 -- Assumes nothing.
-use mathlib.Core.Path.{◌≡◌, refl}
+use mathlib.Core.Path.{◌≡◌}
 use Prim.Native.Nat.{◌-◌, ◌≤◌}
-use native.Mathlib.Omega.{arith}
-use lib.ListN.{length, take, length-set}
+use lib.ListN.{length, take}
 use Rattle.counting.specs.Working.Adding.{entry, joined, carried, laid}
-use Rattle.counting.proofs.Sliding.{Going, turn_fits, turn_passed, turn_swapped, turn_hit, turn_ended}
+use Rattle.counting.proofs.Sliding.{Going}
 use Rattle.counting.proofs.adding.add_value.Given as goal
 
 abbrev pub invariant-loop-i : goal.invariant-loop-i

@@ -5,11 +5,10 @@ use Prim.Native.Nat.{ℕ, ◌*◌}
 use lib.ListN.{length, replicate, length-replicate}
 use Rattle.riscu.specs.Limits.{code_words}
 use Rattle.blocks.specs.Record.{most_inputs}
-use Rattle.serving.proofs.JobPassed.{read_refused, read_passed, code_length, intervals_length, memory_length}
+use Rattle.serving.proofs.JobPassed.{read_refused, read_passed}
 use Rattle.counting.specs.Working.Adding.{counted_job}
 use Rattle.counting.proofs.Read.{job_refused, job_counted, job_is, job_passed}
 use native.Mathlib.Omega.{arith}
-use borrow.Author.Rules.{rules}
 use Rattle.counting.proofs.counting.count.Goals as goal
 
 code_size : length (replicate {A = ℕ} code_words 0) ≡ code_words

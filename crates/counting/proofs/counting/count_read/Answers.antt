@@ -1,9 +1,7 @@
 -- `counting::counting::count_read` meets its contract: the questions 15 and 16, and then the sums of the report.
 -- Assumes nothing.
 use mathlib.Core.Path.{sym, ◌∙◌}
-use Rattle.jobs.proofs.Accepted.{front_length}
 use Rattle.counting.proofs.Started.{start_proper, start_over, start_refused, start_many, start_adds, start_counted}
-use borrow.Author.Rules.{rules}
 use Rattle.counting.proofs.counting.count_read.Goals as goal
 
 pub box_size-s-requires : goal.box_size-s-requires

@@ -1,13 +1,11 @@
 -- `counting::sizes::box_size` meets its contract: the widths multiplied up, as long as the product is a word.
 -- Assumes nothing.
-use Prim.Native.Nat.{◌+◌, ◌-◌, ◌*◌, ◌/◌, ◌^◌, ◌≤◌, ◌<◌}
-use native.Mathlib.Nat.{div-le_self}
+use Prim.Native.Nat.{◌+◌, ◌-◌, ◌*◌}
 use native.Mathlib.Omega.{arith}
-use lib.ListN.{length, get_or}
-use Rattle.words.specs.Word.{max_word}
+use lib.ListN.{get_or}
 use Rattle.calls.specs.Call.{box_of}
 use Rattle.calls.proofs.Pairs.{pairs_length, pair_is}
-use Rattle.counting.proofs.Products.{Multiplied, none_multiplied, all_multiplied, in_order, one_multiplied, too_large, small_enough, size_fits_lem}
+use Rattle.counting.proofs.Products.{all_multiplied, in_order, one_multiplied, too_large, small_enough, size_fits_lem}
 use Rattle.counting.proofs.sizes.box_size.Goals as goal
 
 pub overflow_sub-more : goal.overflow_sub-more

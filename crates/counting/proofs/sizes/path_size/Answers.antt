@@ -1,10 +1,8 @@
 -- `counting::sizes::path_size` meets its contract: the widths multiplied up; the product is no more than the size.
 -- Assumes nothing.
-use Prim.Native.Nat.{◌-◌, ◌≤◌}
 use native.Mathlib.Omega.{arith}
 use Rattle.blocks.specs.Report.{record_at}
-use Rattle.blocks.specs.Said.{said_at}
-use Rattle.counting.proofs.Products.{Multiplied, none_multiplied, all_multiplied, in_order, product_fits, width_fits, one_multiplied, record_length, interval_is}
+use Rattle.counting.proofs.Products.{all_multiplied, in_order, product_fits, width_fits, one_multiplied, record_length, interval_is}
 use Rattle.counting.proofs.sizes.path_size.Goals as goal
 
 pub overflow_sub-n : goal.overflow_sub-n

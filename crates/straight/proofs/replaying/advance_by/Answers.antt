@@ -1,5 +1,4 @@
 use Rattle.lockstep.specs.Working.LockStep.{advanced_by}
-use borrow.Author.Rules.{rules}
 use Rattle.straight.proofs.replaying.advance_by.Goals as goal
 
 pub returns-in_default : goal.returns-in_default

@@ -2,7 +2,6 @@ use Rattle.lockstep.specs.Working.LockStep.{advanced_by}
 use Rattle.riscu.specs.Decode.{decode_of}
 use Rattle.riscu.specs.Machine.{fetch}
 use borrow.Author.Tests.{eq-eqb, ne_eqb, lt-ltb, le-ltb}
-use borrow.Author.Rules.{rules}
 use Rattle.straight.proofs.replaying.advance_next.Goals as goal
 
 pub returns-then-pc-ne0 : goal.returns-then-pc-ne0

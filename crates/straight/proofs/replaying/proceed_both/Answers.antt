@@ -1,8 +1,6 @@
-use Rattle.lockstep.specs.Working.LockStep.{machines, both, lock_steps}
-use native.Mathlib.Omega.{arith}
-use Prim.Native.Nat.{zero-le, ◌-◌, ◌≤◌}
-use mathlib.Core.Path.{◌≡◌, refl}
-use borrow.Author.Rules.{rules}
+use Rattle.lockstep.specs.Working.LockStep.{lock_steps}
+use Prim.Native.Nat.{zero-le}
+use mathlib.Core.Path.{refl}
 use Rattle.straight.proofs.replaying.proceed_both.Goals as goal
 
 pub loop-k-init : goal.loop-k-init

@@ -1,8 +1,6 @@
 use Rattle.lockstep.specs.Working.LockStep.{machines, both, lock_steps}
-use native.Mathlib.Omega.{arith}
-use Prim.Native.Nat.{zero-le, ◌-◌, ◌≤◌}
-use mathlib.Core.Path.{◌≡◌, refl}
-use borrow.Author.Rules.{rules}
+use Prim.Native.Nat.{◌-◌, ◌≤◌}
+use mathlib.Core.Path.{◌≡◌}
 use Rattle.straight.proofs.replaying.proceed_both.Given as goal
 
 abbrev pub invariant-loop-k : goal.invariant-loop-k

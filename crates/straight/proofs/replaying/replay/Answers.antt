@@ -1,6 +1,5 @@
 use Rattle.lockstep.specs.Working.LockStep.{pair, lock_steps, starting}
 use mathlib.Core.Path.{◌∙◌}
-use borrow.Author.Rules.{rules}
 use Rattle.straight.proofs.replaying.replay.Goals as goal
 
 pub returns : goal.returns

@@ -1,6 +1,5 @@
 use Rattle.straight.proofs.Onward.{runs_rise, runs_within, runs_onward, onward_one}
 use native.Mathlib.Omega.{arith}
-use borrow.Author.Rules.{rules}
 use Rattle.straight.proofs.replaying.some_steps.Goals as goal
 
 pub returns-then-n-done : goal.returns-then-n-done

@@ -9,7 +9,6 @@ use Rattle.riscu.specs.declared.Instruction.TheVariants.{Branch}
 use Rattle.words.proofs.Signs.{held, held_is}
 use mathlib.Core.Path.{refl, sym, ap, ◌∙◌}
 use native.Mathlib.Omega.{arith}
-use borrow.Author.Rules.{rules}
 use Rattle.straight.proofs.rows.straight_branch.Goals as goal
 
 pub returns : goal.returns

@@ -5,7 +5,6 @@ use Rattle.lockstep.specs.Working.LockStep.{tagged, pair}
 use Rattle.riscu.specs.declared.Instruction.TheVariants.{Immediate}
 use Rattle.words.proofs.Signs.{held, held_is}
 use mathlib.Core.Path.{sym, ◌∙◌}
-use borrow.Author.Rules.{rules}
 use Rattle.straight.proofs.rows.straight_immediate.Goals as goal
 
 pub returns : goal.returns

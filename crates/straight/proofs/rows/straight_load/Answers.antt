@@ -7,7 +7,6 @@ use Rattle.lockstep.specs.Working.LockStep.{tagged, pair}
 use Rattle.riscu.specs.declared.Instruction.TheVariants.{Ld}
 use Rattle.words.proofs.Signs.{held, held_is}
 use mathlib.Core.Path.{refl, sym, ◌∙◌}
-use borrow.Author.Rules.{rules}
 use Rattle.straight.proofs.rows.straight_load.Goals as goal
 
 pub returns : goal.returns

@@ -4,7 +4,6 @@ use Rattle.corners.specs.Working.Tags.{tag_step}
 use Rattle.lockstep.specs.Working.LockStep.{tagged, pair}
 use Rattle.riscu.specs.declared.Instruction.TheVariants.{Register}
 use mathlib.Core.Path.{sym, ◌∙◌}
-use borrow.Author.Rules.{rules}
 use Rattle.straight.proofs.rows.straight_operation.Goals as goal
 
 pub returns : goal.returns

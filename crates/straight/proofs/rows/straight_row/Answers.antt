@@ -1,7 +1,6 @@
 use Rattle.straight.proofs.Taking.{of_row}
 use Rattle.riscu.specs.declared.Operation.TheVariants.{Add, Sub, Mul, Divu, Remu, Sltu}
 use Rattle.riscu.proofs.Rows.{lui_row, immediate_row, register_row_lem, ld_row, sd_row, branch_row, jal_row}
-use borrow.Author.Rules.{rules}
 use Rattle.straight.proofs.rows.straight_row.Goals as goal
 
 pub returns-in-0 : goal.returns-in-0

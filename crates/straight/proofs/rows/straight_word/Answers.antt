@@ -1,5 +1,4 @@
 use Rattle.riscu.proofs.Rows.{decoded}
-use borrow.Author.Rules.{rules}
 use Rattle.straight.proofs.rows.straight_word.Goals as goal
 
 pub returns : goal.returns

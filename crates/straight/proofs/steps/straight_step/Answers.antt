@@ -1,5 +1,4 @@
 use Rattle.straight.proofs.Taking.{from_word}
-use borrow.Author.Rules.{rules}
 use Rattle.straight.proofs.steps.straight_step.Goals as goal
 
 pub returns : goal.returns

@@ -1,10 +1,6 @@
 use Rattle.straight.proofs.Entries.{decided_within}
-use Rattle.straight.proofs.Onward.{runs_left}
-use Rattle.straight.specs.Working.Stepped.{place, StraightRun, none, more}
-use Rattle.lockstep.specs.Working.LockStep.{machines}
-use Prim.Native.Nat.{◌-◌}
+use Rattle.straight.specs.Working.Stepped.{none, more}
 use native.Mathlib.Omega.{arith}
-use borrow.Author.Rules.{rules}
 use Rattle.straight.proofs.steps.straight_steps.Goals as goal
 
 pub loop-so_far-init : goal.loop-so_far-init

@@ -1,10 +1,6 @@
-use Rattle.straight.proofs.Entries.{decided_within}
-use Rattle.straight.proofs.Onward.{runs_left}
-use Rattle.straight.specs.Working.Stepped.{place, StraightRun, none, more}
+use Rattle.straight.specs.Working.Stepped.{place, StraightRun}
 use Rattle.lockstep.specs.Working.LockStep.{machines}
 use Prim.Native.Nat.{◌-◌}
-use native.Mathlib.Omega.{arith}
-use borrow.Author.Rules.{rules}
 use Rattle.straight.proofs.steps.straight_steps.Given as goal
 
 abbrev pub invariant-loop-so_far : goal.invariant-loop-so_far
