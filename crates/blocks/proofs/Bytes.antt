@@ -1,6 +1,6 @@
 -- Words in bytes and back.
 -- Assumes nothing.
-use Rattle.std.proofs.Common.{◌≡◌, ℕ, zero, suc, ◌+◌, ◌*◌, ◌/◌, ◌^◌, ◌<◌, ◌≤◌, List, [], ◌∷◌, ◌++◌, length, get_or, take, drop, replicate, sym, refl, ap, ◌∙◌, append_assoc, append-nil, pow-suc, arith, length-append, length-drop, drop-cons, drop-drop, take_at}
+use Rattle.std.proofs.Common.{◌≡◌, ℕ, zero, suc, ◌+◌, ◌*◌, ◌/◌, ◌^◌, ◌<◌, ◌≤◌, List, [], ◌∷◌, ◌++◌, length, get_or, take, drop, replicate, sym, refl, ap, ◌∙◌, append_assoc, append-nil, pow-suc, arith, length-append, length-drop, get_or-drop, drop-cons, drop-drop, take_at}
 use mathlib.Core.List.{flat_map}
 use lib.ListN.{length-replicate}
 use lib.Seq.{take-append-le, drop-append-le, drop-append-add}
@@ -26,6 +26,21 @@ number_more bs i n h = rw (drop-cons bs i 0 h)
 
 pub below_more : (n b w : ℕ) → b < 256 → w < 256 ^ n → b + 256 * w < 256 ^ suc n
 below_more n b w hb hw = rw pow-suc (omega arith)
+
+-- n bytes hold a number below 256 ^ n
+number_below : (n : ℕ) (bs : List ℕ) → ((k : ℕ) → get_or bs k 0 < 2 ^ 8) → number_of (take n bs) < 256 ^ n
+unfolding number_of
+number_below zero bs h = omega arith
+number_below (suc n) [] h = rw pow-suc (omega (arith, number_below n [] h))
+number_below (suc n) (b ∷ bs) h = rw pow-suc (omega (arith, h 0, number_below n bs (λ k. h (suc k))))
+
+-- words of bytes, from anywhere and in a row
+module _ (bs : List ℕ) (bytes : (k : ℕ) → get_or bs k 0 < 2 ^ 8) where
+  pub eight_below : (i : ℕ) → number_of (take word_bytes (drop i bs)) < 2 ^ 64
+  eight_below i = number_below word_bytes (drop i bs) (λ k. rw (get_or-drop i bs k 0) (bytes (i + k)))
+
+  pub word_below : (k : ℕ) → word_at bs k < 2 ^ 64
+  word_below k = eight_below (k * word_bytes)
 
 -- four bytes, and eight by halves
 module _ (bs : List ℕ) (i : ℕ) where

@@ -1,7 +1,10 @@
 -- A test of numbers in a row: one more of them, and all of them.
 -- Assumes nothing.
-use Rattle.std.proofs.Common.{◌≡◌, ℕ, zero, suc, ◌+◌, ◌-◌, ◌<◌, ◌≤◌, Bool, true, false, ◌&&◌, refl, ◌∙◌, add-one, arith}
+use Rattle.std.proofs.Common.{◌≡◌, ℕ, zero, suc, ◌+◌, ◌-◌, ◌<◌, ◌≤◌, Bool, true, false, ◌&&◌, eqb, refl, ◌∙◌, add-one, arith, eqb-true}
+use mathlib.Core.Bool.{and-eq-true_iff}
 use native.Mathlib.Nat.{sub-zero}
+use borrow.Author.Tests.{eqb-false}
+use Rattle.boxes.proofs.Lists.{by_test}
 use Rattle.blocks.specs.Block.{each}
 
 pub each_begin : (p : ℕ → Bool) (n : ℕ) → each p 0 n ≡ each p 0 (n - 0)
@@ -22,9 +25,18 @@ module _ (p : ℕ → Bool) (k e : ℕ) where
   pub each_go : k < e → p k ≡ true → each p k (e - k) ≡ each p (k + 1) (e - (k + 1))
   each_go h y = each_more h ∙ rw y
 
--- `each` is true if the test is true of every number
+-- `each` is true exactly if the test is true of every number
 module _ (p : ℕ → Bool) where
   pub each_all : (n k : ℕ) → ((i : ℕ) → k ≤ i → i < k + n → p i ≡ true) → each p k n ≡ true
   unfolding each
   each_all zero k h = refl
   each_all (suc n) k h = rw (h k (omega arith) (omega arith)) (each_all n (suc k) (λ i l m. h i (omega arith) (omega arith)))
+
+  pub each_at : (n k : ℕ) → each p k n ≡ true → (i : ℕ) → k ≤ i → i < k + n → p i ≡ true
+  unfolding each
+  each_at zero k h i l m = absurd (omega arith)
+  each_at (suc n) k h i l m =
+      let (one, others) = (and-eq-true_iff (p k) (each p (suc k) n)).0 h in
+      by_test (eqb i k)
+      (λ e. rw (eqb-true i k e) one)
+      (λ e. let d = eqb-false i k e in each_at n (suc k) others i (omega arith) (omega arith))
