@@ -1,6 +1,7 @@
 -- MUL and DIVU by a fixed number, whichever it is (document 02, No. 5). Followed: DIVU by it ends at none of the points 4 to 9 and never
 -- forks; MUL by it, from either side, can end with reason 5 alone. Carried forward: the result has its ends where the other operand has
--- its own, for MUL in one class. Cut back: a comparison of the result is one of the other operand, for MUL in one class.
+-- its own, for MUL in one class. Cut back: a comparison of the result is one of the other operand, for MUL in one class. Reason 5, of
+-- MUL and of REMU, by the quotients that document 01's point 8 names.
 -- Assumes nothing.
 use mathlib.Core.Path.{◌≡◌, ap}
 use mathlib.Core.Bool.{false, cond}
@@ -17,7 +18,7 @@ use Rattle.boxes.proofs.Choices.{mem_choices}
 use Rattle.boxes.proofs.OneInput.{low_carried, high_carried}
 use Rattle.words.specs.Word.{size, word}
 use Rattle.riscu.specs.Machine.{State, reg, operate}
-use Rattle.riscu.specs.declared.Operation.TheVariants.{Mul, Divu}
+use Rattle.riscu.specs.declared.Operation.TheVariants.{Mul, Divu, Remu}
 use Rattle.riscu.specs.declared.Instruction.TheVariants.{Register}
 use Rattle.listing.specs.Group.{Job, Group, after, View, view_of, sort_of, sorting_of, class_by, class_of}
 use Rattle.listing.specs.Ending.{first, open_at, both_open, far_apart, operation_points, operand_points, address_points, points}
@@ -42,6 +43,11 @@ pub mul_end : (v : View) (rd q r : ℕ) → eqb rd 0 ≡ false → both_open v (
     → first (points v (Register Mul rd q r)) ≡ cond (far_apart v Mul (InRegister q) (InRegister r)) (some (NotFollowed Quotients)) none
 unfolding points address_points operand_points operation_points sorting_of first
 mul_end v rd q r z e = rw (z, e)
+
+pub remu_end : (v : View) (rd q r : ℕ) → eqb rd 0 ≡ false → open_at v r ≡ false
+    → first (points v (Register Remu rd q r)) ≡ cond (far_apart v Remu (InRegister q) (InRegister r)) (some (NotFollowed Quotients)) none
+unfolding points address_points operand_points operation_points sorting_of first
+remu_end v rd q r z e = rw (z, e)
 
 pub mul_class : (rd q r : ℕ) (s : State) → eqb rd 0 ≡ false → class_of (Register Mul rd q r) s ≡ reg q s * reg r s / size
 unfolding class_of class_by sorting_of sort_of
@@ -82,6 +88,15 @@ module _ (j : Job) (g : Group) (proper : Proper g.box) (q r k : ℕ)
   mul_apart =
       let (l, h) = carried (λ s. sort_of Mul (reg q s) (reg r s)) (λ x. x * k / size)
       (λ c m. rw (is c m)) (λ c d m n l. div_rises size (mul-le-mul_right k l)) in
+      rw (l, h)
+
+  -- by 0 there is one quotient (ByZero)
+  pub remu_apart : 0 < k → far_apart (view_of j g) Remu (InRegister q) (InRegister r)
+      ≡ ltb ((view_of j g).lowest (reg q) / k + 1) ((view_of j g).highest (reg q) / k)
+  unfolding sort_of
+  remu_apart above =
+      let (l, h) = carried (λ s. sort_of Remu (reg q s) (reg r s)) (λ x. x / k)
+      (λ c m. rw (is c m, ne_eqb k 0 (omega arith))) (λ c d m n l. div_rises k l) in
       rw (l, h)
 
   -- in one class

@@ -6,7 +6,7 @@
 --     Followed        what the ending order says of a group that goes on
 --     Unforked        one class on a group's box: no fork
 --     Itself          one register named twice: SUB, SLTU and BEQ go on
---     ByNumber        MUL and DIVU by a fixed number, whichever it is
+--     ByNumber        MUL and DIVU by a fixed number, whichever it is; reason 5 by the quotients
 --     ByZero          a fixed divisor 0: DIVU and REMU go on
 --     Corner          the corners decide the ending order and the pieces
 --     Needs           the entries that a step takes, by the corners
