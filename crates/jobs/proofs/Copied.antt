@@ -1,15 +1,17 @@
 -- Words copied one by one over a list.
 -- Assumes nothing.
-use mathlib.Core.Path.{◌≡◌, ap, ◌∙◌}
+use mathlib.Core.Path.{◌≡◌, sym, ap, ◌∙◌}
 use mathlib.Core.List.{List, ◌++◌, map}
 use Prim.Native.Nat.{ℕ, suc, ◌+◌, ◌-◌, ◌<◌, ◌≤◌}
 use native.Mathlib.Numerals.{add-one}
 use native.Mathlib.Nat.{zero-add, add-zero, sub-zero}
 use native.Mathlib.Omega.{arith}
-use lib.ListN.{length, get_or, set, replicate, length-map, length-replicate}
+use borrow.Author.Tests.{ltb-true, ltb-false}
+use lib.Dec.{ltb}
+use lib.ListN.{length, get_or, set, replicate, length-map, length-replicate, get_or-eq_default}
 use lib.Seq.{sets, sets-eq, ext_get_or}
 use Rattle.boxes.specs.Boxes.{from}
-use Rattle.boxes.proofs.Lists.{length_from, from_at}
+use Rattle.boxes.proofs.Lists.{by_test, length_from, from_at}
 use Rattle.blocks.proofs.Rows.{drop_zeros}
 use Rattle.jobs.specs.Working.Reading.{over}
 
@@ -47,6 +49,15 @@ module _ (f : ℕ → ℕ) where
   copied_is n l e h =
       ext_get_or 0 (map f (from 0 n)) l (copied n ∙ e)
       (λ k i. let m : k < n = omega (arith, copied n) in from_at f 0 n 0 k m ∙ ap f (zero-add k) ∙ h k m)
+
+  -- a rule that gives 0 from n on
+  pub copied_padded : (n m : ℕ) → ((k : ℕ) → n ≤ k → k < m → f k ≡ 0) → (k : ℕ) → k < m → f k ≡ get_or (map f (from 0 n)) k 0
+  copied_padded n m zeros k l =
+      by_test (ltb k n)
+      (λ t. sym (from_at f 0 n 0 k (ltb-true k n t) ∙ ap f (zero-add k)))
+      (λ t.
+      let past : n ≤ k = ltb-false k n t in
+      zeros k past l ∙ sym (get_or-eq_default (map f (from 0 n)) 0 {n = k} (omega (arith, copied n))))
 
   pub copied_over : (old : List ℕ) (n : ℕ) → n ≤ length old → sets old 0 (map f (from 0 n)) ≡ over (map f (from 0 n)) old
   copied_over old n h =

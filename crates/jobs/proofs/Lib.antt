@@ -4,10 +4,12 @@
 --     Asked       what the questions on a job leave
 --     Accepted    an accepted job leaves only questions 5 and 7 of a call
 --     Typed       what is read from bytes is of its types
+--     Same        what is read and how many memory words are given are all of an accepted job
 --     Examples    document 01's Job A, read, and changes of it, refused
 pub mod Placed
 pub mod Copied
 pub mod Asked
 pub mod Accepted
 pub mod Typed
+pub mod Same
 pub mod Examples
