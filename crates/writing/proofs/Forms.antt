@@ -1,26 +1,33 @@
--- Of all jobs that mean the same exactly one is the writer's form.
+-- Of all jobs that mean the same exactly one is the writer's form; they are free in their trailing zero words alone.
 -- Assumes nothing.
 use mathlib.Core.Path.{◌≡◌, refl, sym, ap, ◌∙◌}
-use mathlib.Core.List.{List, [], ◌∷◌, ◌++◌}
-use Prim.Native.Nat.{ℕ, zero, suc, ◌*◌, ◌/◌, ◌^◌}
+use mathlib.Core.List.{List, [], ◌∷◌, ◌++◌, map}
+use Prim.Native.Nat.{ℕ, zero, suc, ◌-◌, ◌*◌, ◌/◌, ◌^◌, ◌≤◌, ◌<◌}
 use native.Mathlib.Omega.{arith}
+use borrow.Author.Tests.{ltb-true, ltb-false}
+use lib.Dec.{ltb}
 use lib.ListN.{length, take, drop}
 use Rattle.boxes.specs.Boxes.{from}
+use Rattle.boxes.proofs.Lists.{by_test}
+use Rattle.riscu.specs.Limits.{memory_words}
 use Rattle.listing.proofs.First.{passes, none_applies}
 use Rattle.blocks.specs.Block.{word_bytes, payload_words, bytes_of, check, payload, block}
 use Rattle.calls.specs.Call.{Below}
 use Rattle.calls.specs.declared.Refusal.TheVariants.{Code, Inputs, Order, Limit, Memory, First}
 use Rattle.calls.proofs.Asked.{yes_on}
 use Rattle.jobs.specs.Header as header
-use Rattle.jobs.specs.Job.{JobRead, job_read, blocks_for}
+use Rattle.jobs.specs.Job.{JobRead, given_count, blocks_for, memory_at, memory_in, job_read}
 use Rattle.jobs.proofs.Accepted.{code_length, intervals_length, memory_length, values_asked}
 use Rattle.jobs.proofs.Asked.{yes_sized}
+use Rattle.jobs.proofs.Copied.{copied}
+use Rattle.jobs.proofs.Same.{memory_is, job_same}
 use Rattle.jobs.proofs.Typed.{word_below, code_typed, intervals_typed, memory_typed}
-use Rattle.writing.specs.Form.{header_words, code_pairs, given_words, part_block, part_blocks, job_form}
+use Rattle.writing.specs.Form.{given_of, header_words, code_pairs, given_words, part_block, part_blocks, job_form}
 use Rattle.writing.specs.Write.{value_questions}
-use Rattle.writing.specs.Written.{TypedValues, Passes, ReadBack, AcceptedJob, OneForm}
+use Rattle.writing.specs.Written.{TypedValues, Passes, NoTrailingZero, GivesFew, ReadBack, AcceptedJob, SameMeaning, WritersForm, OneForm, FreeInZeros}
+use Rattle.writing.proofs.Given.{given_few, given_padded, given_behind}
 use Rattle.writing.proofs.Promises.{passes_written}
-use Rattle.writing.proofs.Read.{form_length_lem, form_read, form_most, form_accepted}
+use Rattle.writing.proofs.Read.{form_length_lem, form_read, form_most, form_gives, form_few, form_last, form_accepted}
 use Rattle.writing.proofs.Stores.{append_below, join_below}
 
 pub read_back : (j : JobRead) → TypedValues j → Passes j → ReadBack j
@@ -31,6 +38,9 @@ read_back j typed passed =
       size = form_length_lem j;
       most = form_most j passed;
     }
+
+pub gives_few : (j : JobRead) → TypedValues j → Passes j → GivesFew j
+gives_few j typed passed = record { given = form_few j typed passed; last = form_last j typed passed }
 
 -- the form is of bytes
 
@@ -103,3 +113,62 @@ one_form bytes job =
       again = ap job_form (form_back bytes job).same;
       alike = λ other accepted. (ap job_form, λ e. sym (form_back other accepted).same ∙ ap job_read e ∙ (form_back bytes job).same);
     }
+
+-- what an accepted job is free in
+module _ (bytes : List ℕ) (job : AcceptedJob bytes) where
+  abbrev form : List ℕ
+  form = job_form (job_read bytes)
+
+  -- the words that it gives, of which the form gives those up to the last that is not 0
+  abbrev given : List ℕ
+  given = map (memory_at bytes) (from 0 (given_count bytes))
+
+  given_form : given_count form ≡ given_of (memory_in bytes)
+  given_form = unfold job_read in form_gives (job_read bytes) (read_typed bytes job) (read_passes bytes job)
+
+  no_fewer : given_count form ≤ given_count bytes
+  unfolding memory_in
+  no_fewer =
+      omega (arith, given_form, given_padded given (memory_words - given_count bytes), given_few given, copied (memory_at bytes) (given_count bytes))
+
+  beyond : (i : ℕ) → given_count form ≤ i → i < given_count bytes → memory_at bytes i ≡ 0
+  beyond i l m = memory_is bytes job.accepted i (omega arith) ∙ given_behind (memory_in bytes) i (omega (arith, given_form))
+
+  every_byte : (other : List ℕ) → SameMeaning other bytes → given_count other ≡ given_count bytes → other ≡ bytes
+  every_byte other same count =
+      let o = same.one_accepted in
+      job_same other bytes o.accepted job.accepted same.read count o.typed job.typed
+
+  as_many : given_count bytes ≡ given_count form → WritersForm bytes
+  as_many e =
+      record {
+        values = job_read bytes;
+        typed = read_typed bytes job;
+        passes = read_passes bytes job;
+        form = sym (every_byte form (one_form bytes job).means (sym e));
+      }
+
+  -- if it gave more than the form, the last would be 0
+  no_more : NoTrailingZero bytes → given_count bytes ≤ given_count form
+  no_more last =
+      by_test (ltb (given_count form) (given_count bytes))
+      (λ t.
+      let more : given_count form < given_count bytes = ltb-true _ _ t in
+      absurd (last (given_count bytes - 1) (omega arith) (beyond (given_count bytes - 1) (omega arith) (omega arith))))
+      (λ t. ltb-false _ _ t)
+
+  pub free_in_zeros : FreeInZeros bytes
+  free_in_zeros =
+      record {
+        every_byte = every_byte;
+        no_fewer = no_fewer;
+        beyond = beyond;
+        as_many = (
+          λ f. ap given_count ((one_form bytes job).only bytes (record { one_accepted = job; other_accepted = job; read = refl }) f),
+          as_many,
+        );
+        no_zero = (
+          λ f. rw f.form (form_last f.values f.typed f.passes),
+          λ last. as_many (omega (arith, no_fewer, no_more last)),
+        );
+      }

@@ -1,16 +1,18 @@
 -- The memory words given: the words up to the last that is not 0.
 -- Assumes nothing.
 use mathlib.Core.Path.{◌≡◌, refl, sym, ap, ◌∙◌}
+use mathlib.Core.Logic.{◌≢◌}
 use mathlib.Core.Bool.{Bool, ◌&&◌, and-eq-true_iff}
 use mathlib.Core.List.{List, [], ◌∷◌, ◌++◌}
-use Prim.Native.Nat.{ℕ, zero-le, suc, ◌-◌, ◌≤◌}
+use Prim.Native.Nat.{ℕ, zero, zero-le, suc, ◌-◌, ◌≤◌}
 use native.Mathlib.Nat.{sub-zero}
 use native.Mathlib.Omega.{arith}
 use borrow.Author.Tests.{eqb-true, ne_eqb}
 use lib.Dec.{eqb}
-use lib.ListN.{length, drop, replicate, take-append-drop}
+use lib.ListN.{length, get_or, drop, replicate, take-append-drop, get_or-eq_default}
 use lib.Seq.{length-take-le}
-use Rattle.boxes.proofs.Lists.{by_test}
+use Rattle.boxes.proofs.Lists.{by_test, not_both}
+use Rattle.blocks.proofs.Bytes.{get_d_padded}
 use Rattle.writing.specs.Form.{given_of, given_words}
 
 -- no word is given of these: they are all 0
@@ -20,17 +22,34 @@ none_given w ws = eqb (given_of ws) 0 && eqb w 0
 pub given_few : (ws : List ℕ) → given_of ws ≤ length ws
 unfolding given_of
 given_few [] = zero-le
-given_few (w ∷ ws) = by_test (none_given w ws) (λ e. rw e zero-le) (λ e. rw e (omega (arith, given_few ws)))
+given_few (w ∷ ws) = by_test (none_given w ws) (λ e. rw e (omega (arith, given_few ws))) (λ e. rw e (omega (arith, given_few ws)))
 
 pub given_length : (ws : List ℕ) → length (given_words ws) ≡ given_of ws
 given_length ws = length-take-le (given_of ws) ws (given_few ws)
 
--- one word more at the end
+-- the last word given is not 0
+pub given_last : (ws : List ℕ) (n : ℕ) → given_of ws ≡ suc n → get_or ws n 0 ≢ 0
+unfolding given_of
+given_last [] n e z = absurd (omega arith)
+given_last (w ∷ ws) zero e z =
+    by_test (none_given w ws)
+    (λ t. absurd (omega (arith, rw t at e)))
+    (λ t. let none : given_of ws ≡ 0 = omega (arith, rw t at e) in not_both t (rw (none, z)))
+given_last (w ∷ ws) (suc n) e z =
+    by_test (none_given w ws) (λ t. absurd (omega (arith, rw t at e))) (λ t. given_last ws n (omega (arith, rw t at e)) z)
+
+-- one word more at the end, and zero words
 
 pub given_zero : (ws : List ℕ) → given_of (ws ++ (0 ∷ [])) ≡ given_of ws
 unfolding given_of
 given_zero [] = refl
 given_zero (w ∷ ws) = rw (given_zero ws)
+
+pub given_padded : (ws : List ℕ) (n : ℕ) → given_of (ws ++ replicate n 0) ≡ given_of ws
+unfolding given_of
+given_padded [] zero = refl
+given_padded [] (suc n) = rw (given_padded [] n)
+given_padded (w ∷ ws) n = rw (given_padded ws n)
 
 pub given_more : (ws : List ℕ) (w : ℕ) → (w ≡ 0 → ⊥) → given_of (ws ++ (w ∷ [])) ≡ suc (length ws)
 unfolding given_of
@@ -52,6 +71,12 @@ zeros_behind (w ∷ ws) =
 
 pub given_whole : (ws : List ℕ) → given_words ws ++ replicate (length ws - given_of ws) 0 ≡ ws
 given_whole ws = ap (λ (l : List ℕ). given_words ws ++ l) (sym (zeros_behind ws)) ∙ take-append-drop (given_of ws) ws
+
+pub given_behind : (ws : List ℕ) (i : ℕ) → given_of ws ≤ i → get_or ws i 0 ≡ 0
+given_behind ws i l =
+    ap (λ (v : List ℕ). get_or v i 0) (sym (given_whole ws))
+    ∙ get_d_padded (given_words ws) (length ws - given_of ws) i
+    ∙ get_or-eq_default (given_words ws) 0 {n = i} (omega (arith, given_length ws))
 
 -- of the words given all are given
 pub given_again : (ws : List ℕ) → given_of (given_words ws) ≡ given_of ws

@@ -10,7 +10,7 @@
 --     Made        how a job comes to be written, part by part
 --     Promises    what a call leaves
 --     Refused     values are refused as the reader would
---     Forms       of all jobs that mean the same exactly one is the writer's form
+--     Forms       of all jobs that mean the same exactly one is the writer's form; what an accepted job is free in
 --     Numbers     the numbers at the border say all of the answer
 --     Examples    jobs and refusals, computed
 pub mod Given

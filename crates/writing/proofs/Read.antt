@@ -6,11 +6,12 @@ use mathlib.Core.Option.{none}
 use mathlib.Core.List.Memᴰ.{head as here}
 use mathlib.Core.List.Memᴰ.{tail as there}
 use mathlib.Core.List.{List, [], ◌++◌, append-nil, append_assoc, map}
-use Prim.Native.Nat.{ℕ, ◌+◌, ◌-◌, ◌*◌, ◌/◌, ◌%◌, ◌^◌, ◌≤◌, ◌<◌}
+use Prim.Native.Nat.{ℕ, suc, ◌+◌, ◌-◌, ◌*◌, ◌/◌, ◌%◌, ◌^◌, ◌≤◌, ◌<◌}
 use native.Mathlib.Omega.{arith}
 use borrow.Author.Tests.{leb-true, eqb-true, eq-eqb, le-leb, not-false}
 use lib.Dec.{leb, eqb}
 use lib.ListN.{length, get_or, length-append, length-map, get_or-eq_default}
+use lib.Seq.{get_or-take}
 use Rattle.boxes.specs.Boxes.{from, lows, highs}
 use Rattle.riscu.specs.Limits.{code_words, memory_words}
 use Rattle.listing.specs.First.{first}
@@ -31,10 +32,10 @@ use Rattle.jobs.proofs.Asked.{both}
 use Rattle.jobs.proofs.Copied.{copied_is}
 use Rattle.writing.specs.Form.{given_of, inputs_of, header_words, code_pairs, given_words, part_blocks, job_form, form_length}
 use Rattle.writing.specs.Write.{value_questions}
-use Rattle.writing.specs.Written.{TypedValues, Passes}
+use Rattle.writing.specs.Written.{TypedValues, Passes, NoTrailingZero}
 use Rattle.writing.proofs.Alike.{all_alike}
 use Rattle.writing.proofs.Halves.{pairs_count, pairs_words, half_at}
-use Rattle.writing.proofs.Given.{given_few, given_length, given_whole}
+use Rattle.writing.proofs.Given.{given_few, given_length, given_last, given_whole}
 use Rattle.writing.proofs.Header.{header_length, header_words_lem, mark_read, code_read, inputs_read, limit_read, first_read, low_read, high_read, given_read, rest_read, inputs_few, intervals_read}
 use Rattle.writing.proofs.Stores.{take_below}
 use Rattle.writing.proofs.Parts.{part_length, payload_part, checks_from}
@@ -158,6 +159,21 @@ module _ (j : JobRead) (typed : TypedValues j) (passed : Passes j) where
   form_read =
       let i = intervals_read j words rest (pairs_size j passed).0 (pairs_size j passed).1 in
       rw (code_in_lem, i, limit_read j words rest, first_read j words rest, memory_in_lem)
+
+  -- how many memory words the form gives, and that the last of them is not 0
+  pub form_gives : given_count (job_form j) ≡ given_of j.memory
+  unfolding job_form
+  form_gives = given_count_lem
+
+  pub form_few : given_count (job_form j) ≤ memory_words
+  form_few = omega (arith, form_gives, given_few j.memory, memory_size j passed)
+
+  pub form_last : NoTrailingZero (job_form j)
+  unfolding job_form
+  form_last n e z =
+      let m : given_of j.memory ≡ suc n = sym given_count_lem ∙ e in
+      given_last j.memory n m
+      (sym (get_or-take (given_of j.memory) j.memory n 0 (omega arith)) ∙ sym (memory_at_lem n (omega arith)) ∙ z)
 
   -- every unused word and half is 0
   end_unused : (place : ℕ) (ends : List ℕ) → place + most_inputs ≤ payload_words → length ends ≡ input_count bytes

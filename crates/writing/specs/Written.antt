@@ -1,5 +1,5 @@
 -- What a call that writes a job promises, and what reader and writer are to each other.
-use Rattle.std.specs.Prelude.{◌≡◌, ◌↔◌, ◌≢◌, true, List, ◌++◌, ℕ, ◌*◌, ◌%◌, ◌^◌, ◌≤◌, ◌<◌, length, take, drop}
+use Rattle.std.specs.Prelude.{◌≡◌, ◌↔◌, ◌≢◌, true, List, ◌++◌, ℕ, suc, ◌*◌, ◌%◌, ◌^◌, ◌≤◌, ◌<◌, length, take, drop}
 use Rattle.std.proofs.Math.Option.{none, some}
 use Rattle.riscu.specs.Limits.{memory_words}
 use Rattle.blocks.specs.Block.{block_bytes, block, checks_agree}
@@ -11,7 +11,7 @@ use Rattle.calls.specs.declared.Refusal.{Refusal}
 use Rattle.calls.specs.declared.Refusal.TheVariants.{Form, Space}
 use Rattle.calls.specs.declared.Completion.{Completion}
 use Rattle.calls.specs.declared.Completion.TheVariants.{Refused, Done}
-use Rattle.jobs.specs.Job.{JobRead, job_read, most_blocks, whole_blocks, job_refusal_of}
+use Rattle.jobs.specs.Job.{JobRead, given_count, memory_at, job_read, most_blocks, whole_blocks, job_refusal_of}
 use Rattle.writing.specs.Form.{header_words, job_form, form_length}
 use Rattle.writing.specs.Write.{WriteCall, write_call_of, value_questions, write_questions, write_deed, job_written, bytes_written}
 use Rattle.writing.specs.declared.WriteOutcome.{WriteOutcome}
@@ -50,6 +50,15 @@ pub record ReadBack (j : JobRead) : Type 0 where
   pub same : job_read (job_form j) ≡ j
   pub size : length (job_form j) ≡ form_length j
   pub most : form_length j ≤ most_blocks * block_bytes
+
+-- the last memory word that a job gives is not 0
+abbrev pub NoTrailingZero : List ℕ → Type 0
+NoTrailingZero bytes = (n : ℕ) → given_count bytes ≡ suc n → memory_at bytes n ≢ 0
+
+-- trailing zero memory words are not written
+pub record GivesFew (j : JobRead) : Type 0 where
+  pub given : given_count (job_form j) ≤ memory_words
+  pub last : NoTrailingZero (job_form j)
 
 -- The reader refuses these bytes exactly if the writer refuses these values so, whatever space is lent. The form is the reader's to
 -- ask, and the space the writer's.
@@ -97,3 +106,14 @@ pub record OneForm (bytes : List ℕ) : Type 0 where
   pub again : job_form (job_read (job_form (job_read bytes))) ≡ job_form (job_read bytes)
   -- so jobs mean the same exactly if their forms are the same bytes
   pub alike : (other : List ℕ) → AcceptedJob other → (job_read other ≡ job_read bytes) ↔ (job_form (job_read other) ≡ job_form (job_read bytes))
+
+-- An accepted job is free in one thing alone: how many zero words at the end of memory it gives.
+pub record FreeInZeros (bytes : List ℕ) : Type 0 where
+  -- what the reader gets and how many memory words are given say every byte
+  pub every_byte : (other : List ℕ) → SameMeaning other bytes → given_count other ≡ given_count bytes → other ≡ bytes
+  -- no fewer words are given than in the writer's form, and those beyond are 0
+  pub no_fewer : given_count (job_form (job_read bytes)) ≤ given_count bytes
+  pub beyond : (i : ℕ) → given_count (job_form (job_read bytes)) ≤ i → i < given_count bytes → memory_at bytes i ≡ 0
+  -- it is in the writer's form exactly if it gives as many, and exactly if the last that it gives is not 0
+  pub as_many : WritersForm bytes ↔ (given_count bytes ≡ given_count (job_form (job_read bytes)))
+  pub no_zero : WritersForm bytes ↔ NoTrailingZero bytes
