@@ -18,7 +18,7 @@ use Rattle.boxes.proofs.Places.{nonempty}
 
 -- the numbers of an interval
 
-from_mem : (n : ℕ) {a x : ℕ} → x ∈ from a n → (a ≤ x) × (x < a + n)
+pub from_mem : (n : ℕ) {a x : ℕ} → x ∈ from a n → (a ≤ x) × (x < a + n)
 unfolding from
 from_mem zero m = absurd (Memᴰ.not-nil m)
 from_mem (suc n) m = ⊎_elim (λ e. omega arith) (λ r. let h = from_mem n r in omega arith) (Memᴰ.cases_cons m)

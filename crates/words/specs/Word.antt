@@ -11,7 +11,7 @@ max_word = size - 1
 abbrev pub word : ℕ → ℕ
 word n = n % size
 
--- the number that the lowest `width` bits of a word hold in two's complement
+-- a number of `width` bits, read in two's complement
 unfoldable pub signed : ℕ → ℕ → ℤ
 signed width n = cond (nat_lt n (2 ^ (width - 1))) (pos n) (negsuc (2 ^ width - 1 - n))
 
