@@ -3,7 +3,7 @@
 use mathlib.Core.Path.{◌≡◌, sym, ap, ◌∙◌}
 use mathlib.Core.Bool.{true}
 use mathlib.Core.List.{List, ◌++◌}
-use Prim.Native.Nat.{ℕ}
+use Prim.Native.Nat.{ℕ, ◌≤◌}
 use native.Mathlib.Omega.{arith}
 use lib.ListN.{length, drop}
 use Rattle.boxes.specs.Boxes.{keep, ◌∈◌}
@@ -67,6 +67,16 @@ module _ (E : Engine) (meets : Meets E) {memory table : List ℕ} {xs : List Exc
           words = λ p i k l. page_fits memory (length table) c fair.memory_words fair.typed fair.passes p i k (omega arith);
           inputs = page_inputs memory (length table) c fair.memory_words fair.typed fair.passes;
         }
+
+    records_readable : 1 ≤ inputs_of c → readable (inputs_of c) (records c.first (page j c)) ≡ true
+    records_readable some_input =
+        let counted = fair_counted memory (length table) c fair (same_itself c) in
+        let few = fair_few memory (length table) c fair (same_itself c) in
+        written_readable page_writable some_input (omega (arith, counted, few))
+
+    -- question 12 passes it
+    pub page_readable : 1 ≤ inputs_of c → readable (inputs_of c) (bytes_written x) ≡ true
+    page_readable some_input = rw page_is (records_readable some_input)
 
     pub page_printed : PagePrinted memory (length table) x
     page_printed some_input =
