@@ -2,18 +2,21 @@
 -- Assumes nothing.
 use mathlib.Core.Path.{◌≡◌, refl, sym, ap, ◌∙◌}
 use mathlib.Core.Logic.Iff
-use mathlib.Core.Bool.{Bool, true, false}
+use mathlib.Core.Logic.{◌⊎◌, inl, inr}
+use mathlib.Core.Bool.{Bool, true, false, not}
 use mathlib.Core.List.{List, [], ◌∷◌}
 use mathlib.Core.Option.{Option, none, some}
 use Prim.Native.Nat.{ℕ, ◌-◌, ◌≤◌}
 use native.Mathlib.Omega.{arith}
+use lib.Dec.{eqb}
 use lib.ListN.{get_or}
+use borrow.Author.Tests.{ne_eqb}
 use Rattle.listing.specs.First.{first}
 use Rattle.listing.proofs.First.{none_applies}
 use Rattle.calls.specs.Questions.{number, Question}
 use Rattle.calls.specs.Refuses.{TellsNo}
 use Rattle.calls.proofs.Asked.{first_no}
-use Rattle.calls.specs.Call.{written, more}
+use Rattle.calls.specs.Call.{written, more, is_page}
 use Rattle.calls.specs.Border.{refusal_by, refused_number, SaysRefusal, yes_number, reply_of, InNumbers}
 use Rattle.calls.specs.declared.Refusal.{Refusal}
 use Rattle.calls.specs.declared.Refusal.TheVariants.{Code, Inputs, Order, Limit, Table, Memory, Report, First}
@@ -84,6 +87,24 @@ tells_no qs e =
       accepted = Iff.trans says.accepted (none_applies qs);
       refused = λ r. Iff.trans (says.refused r) (first_no qs r);
     })
+
+-- a number is 0 or a refusal's
+pub refused_either : (o : Option Refusal) → (refused_number o ≡ 0) ⊎ ((r : Refusal) × (refused_number o ≡ number r))
+refused_either none = inl refl
+refused_either (some r) = inr (r, refl)
+
+-- 0 is the number of a page alone
+pub accepted_page : (a : Answer) → eqb (reply_of a).refused 0 ≡ is_page a
+unfolding is_page
+accepted_page (Refused r) = ne_eqb (number r) 0 (λ e. absurd (omega (arith, (numbered r).least)))
+accepted_page (Page n m) = refl
+
+-- and its numbers say which page it is
+pub page_said : (a : Answer) → is_page a ≡ true → Page (reply_of a).count (not (eqb (reply_of a).more 0)) ≡ a
+unfolding is_page written more
+page_said (Refused r) e = let z : ◌≡◌ {A = ℕ} 0 1 = cc in absurd (omega arith)
+page_said (Page n true) e = refl
+page_said (Page n false) e = refl
 
 pub reply_numbers : (a : Answer) → InNumbers (reply_of a) a
 reply_numbers a = record { refusal = says_refusal (refusal_by a); count = refl; further = refl }

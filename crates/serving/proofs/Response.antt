@@ -1,27 +1,30 @@
--- The program's text: the whole of it fits, and of a listing it is what document 01 shows of the listing's paths.
+-- The program's text: the whole of it fits, and of a listing it is what document 01 shows of the listing's paths, which are the first 64
+-- from the first wanted on.
 -- Assumes nothing.
 use mathlib.Core.Path.{◌≡◌, refl, sym, ap, ◌∙◌}
 use mathlib.Core.Bool.{Bool, true}
 use mathlib.Core.List.{List, ◌++◌}
-use mathlib.Core.Option.{none}
+use mathlib.Core.Option.{none, some}
 use Prim.Native.Nat.{ℕ, ◌+◌, ◌*◌, ◌^◌, ◌≤◌}
 use native.Mathlib.Omega.{arith}
 use lib.Dec.{ltb}
-use lib.ListN.{length, drop}
+use lib.ListN.{length, take, drop}
 use Rattle.blocks.specs.Record.{record_bytes}
 use Rattle.blocks.specs.Report.{records_in}
 use Rattle.calls.specs.Call.{Call, inputs_of, Typed, Below, Reply, is_page, refusal_of, job_of, page, reply_by, reply_to}
 use Rattle.calls.specs.Questions.{number}
 use Rattle.calls.specs.declared.Answer.{Answer}
 use Rattle.calls.specs.declared.Answer.TheVariants.{Refused, Page}
+use Rattle.calls.specs.declared.Refusal.{Refusal}
 use Rattle.demands.proofs.Refuses.{page_passes}
 use Rattle.demands.proofs.Reported.{page_few, page_fits, page_inputs}
-use Rattle.jobs.specs.Job.{input_count, job_read, call_in}
-use Rattle.jobs.proofs.Accepted.{intervals_length}
+use Rattle.jobs.specs.Job.{input_count, job_read, call_in, job_refusal_of}
+use Rattle.jobs.proofs.Accepted.{intervals_length, accepted_refusal}
 use Rattle.jobs.proofs.Asked.{yes_sized}
+use Rattle.listing.specs.First.{first}
 use Rattle.listing.specs.Group.{Job}
 use Rattle.listing.specs.Listing.{Path, listing}
-use Rattle.printing.specs.Printed.{listing_text}
+use Rattle.printing.specs.Printed.{turned_away, listing_text}
 use Rattle.printing.specs.Working.Lengths.{longest}
 use Rattle.printing.specs.Output.{fitted, fitting}
 use Rattle.printing.specs.Shown.{listing_of}
@@ -29,9 +32,9 @@ use Rattle.printing.proofs.Lengths.{listing_length, refusal_length}
 use Rattle.printing.proofs.Outputs.{all_fits}
 use Rattle.printing.proofs.Told.{listing_told}
 use Rattle.serving.specs.Response.{report_paths, response_by, response_to}
-use Rattle.serving.specs.Served.{table_words, reply, served}
+use Rattle.serving.specs.Served.{table_words, reply, served_by, served}
 use Rattle.serving.specs.Server.{Bytes}
-use Rattle.serving.proofs.JobPassed.{listed_passes, listed_replied, listed_fits}
+use Rattle.serving.proofs.JobPassed.{served_refused, listed_passes, listed_replied, listed_fits}
 use Rattle.serving.proofs.Lent.{lent}
 
 -- no text is longer than a full report's
@@ -96,3 +99,36 @@ response_shown {n} {m} job report b e =
     let y : reply (Page n m) (served job report).report ≡ reply_to memory table_words c = ap (λ (a : Answer). reply a (served job report).report) (sym e) ∙ q in
     let a : is_page (reply_to memory table_words c).answer ≡ true = rw q at listed in
     rw (e, ← inputs_in job report) (page_shown memory table_words c l.memory_words l.typed (replied_passes memory table_words c a) y)
+
+-- a job that a question refuses is turned away
+pub program_refused : {r : Refusal} (job report : List ℕ) → job_refusal_of job ≡ some r → response_to job (served job report) ≡ turned_away (number r)
+unfolding response_by
+program_refused job report e = rw (served_refused job report e)
+
+-- of one that passes its questions the program lists the paths from the first wanted on, as many as exist, and 64 at most
+module _ (job report : List ℕ) (b : Bytes job report) (size : length report ≡ report_paths * record_bytes (input_count job))
+    (passed : job_refusal_of job ≡ none) where
+  abbrev program_call : Call
+  program_call = call_in job report
+
+  abbrev program_job : Job
+  program_job = job_of (job_read job).memory table_words program_call
+
+  program_passes : refusal_of (job_read job).memory table_words program_call ≡ none
+  unfolding first
+  program_passes = accepted_refusal job report table_words passed (omega arith) ∙ rw size
+
+  abbrev program_page : List Path
+  program_page = page program_job program_call
+
+  program_answers : (served job report).answer ≡ Page (length program_page) (ltb (program_call.first + length program_page) (length (listing program_job)))
+  unfolding served served_by reply_to reply_by
+  program_answers = rw (passed, program_passes)
+
+  page_paths : program_page ≡ take report_paths (drop program_call.first (listing program_job))
+  unfolding page
+  page_paths = rw size
+
+  pub program_listed : let ps = take report_paths (drop program_call.first (listing program_job)) in
+      response_to job (served job report) ≡ listing_of program_call.first ps (ltb (program_call.first + length ps) (length (listing program_job)))
+  program_listed = rw (← page_paths) (response_shown job report b program_answers)
