@@ -3,14 +3,12 @@
 // Prints each line that differs, and how many words there are.
 #![tactic(auto)]
 
+use input::{ROOM, read_full};
 use riscu::decoder::decode;
 use riscu::{Condition, Decoded, Instruction, Operation};
 use std::io;
-use vectors::{differs, line_end, number_at, read_full};
+use vectors::{differs, line_end, number_at};
 use words::widen;
-
-// How many bytes of input there is room for, and one more.
-const ROOM: usize = 65536;
 
 // The row of document 01's table, from 0, or 14 for none; a field that the row lacks is 0.
 #[derive(Drop)]

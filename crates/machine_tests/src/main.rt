@@ -3,14 +3,12 @@
 // Prints each line that differs, how many cases each instruction has, and the sum.
 #![tactic(auto)]
 
+use input::{ROOM, read_full};
 use riscu::At;
 use riscu::plain::{Machine, put, register, store};
 use runs::running::proceed;
 use std::io;
-use vectors::{differs, line_end, number_at, read_full};
-
-// How many bytes of input there is room for, and one more.
-const ROOM: usize = 65536;
+use vectors::{differs, line_end, number_at};
 
 // How many bytes a name has, with the spaces after it.
 const NAME: usize = 5;

@@ -17,7 +17,7 @@ pub mod writer;
 
 // Writes `turned away N` at the start of `out`, as far as it fits, and answers how many bytes it wrote.
 pub fn print_refusal(number: u64, out: &mut [u8]) -> usize
-    ensures { Prints out.old out.new result (turned_away number) }
+    ensures { Prints out result (turned_away number) }
 {
     let p = put_field(out, 0, b"turned away ", number);
     put_text(out, p, b"\n")
@@ -33,7 +33,7 @@ pub fn print_listing(
     out: &mut [u8],
 ) -> usize
     requires { (count * record_bytes inputs ≤ length report.now) × (inputs ≤ most_inputs) }
-    ensures { Prints out.old out.new result (listing_text inputs count more report.now) }
+    ensures { Prints out result (listing_text inputs count more report.now) }
 {
     let mut p = put_field(out, 0, b"paths ", count as u64);
     p = put_field(out, p, b" more ", yes_number(more));

@@ -14,7 +14,7 @@ use blocks::report::{input_high, input_low, record_word};
 // The intervals of a record's inputs.
 fn put_inputs(report: &[u8], inputs: usize, k: usize, out: &mut [u8], at: usize) -> usize
     requires { (k < records_in inputs report.now) × (inputs ≤ most_inputs) }
-    ensures { Writes out.old out.new at result (flat_map input_text (said_at inputs report.now k).box) }
+    ensures { Writes out at result (flat_map input_text (said_at inputs report.now k).box) }
 {
     let mut p = at;
     let mut i: usize = 0;
@@ -30,7 +30,7 @@ fn put_inputs(report: &[u8], inputs: usize, k: usize, out: &mut [u8], at: usize)
 // The exit value of kind 1, the reason of kind 8, and nothing for the others.
 fn put_ending(report: &[u8], inputs: usize, k: usize, out: &mut [u8], at: usize) -> usize
     requires { k < records_in inputs report.now }
-    ensures { Writes out.old out.new at result (ending (said_at inputs report.now k)) }
+    ensures { Writes out at result (ending (said_at inputs report.now k)) }
 {
     let kind = record_word(report, inputs, k, KIND);
     if kind == 1 {
@@ -48,7 +48,7 @@ fn put_ending(report: &[u8], inputs: usize, k: usize, out: &mut [u8], at: usize)
 // The line of a record.
 fn put_line(report: &[u8], inputs: usize, k: usize, out: &mut [u8], at: usize) -> usize
     requires { (k < records_in inputs report.now) × (inputs ≤ most_inputs) }
-    ensures { Writes out.old out.new at result (line (said_at inputs report.now k)) }
+    ensures { Writes out at result (line (said_at inputs report.now k)) }
 {
     let mut p = put_field(out, at, b"path ", record_word(report, inputs, k, NUMBER));
     p = put_field(out, p, b" end ", record_word(report, inputs, k, KIND));
@@ -68,7 +68,7 @@ pub(crate) fn put_lines(
     at: usize,
 ) -> usize
     requires { (count * record_bytes inputs ≤ length report.now) × (inputs ≤ most_inputs) }
-    ensures { Writes out.old out.new at result (flat_map line (first_said inputs count report.now)) }
+    ensures { Writes out at result (flat_map line (first_said inputs count report.now)) }
 {
     let mut p = at;
     let mut k: usize = 0;

@@ -17,7 +17,7 @@ fn put_byte(out: &mut [u8], at: usize, b: u8) -> usize
 // A text that fits: no byte is asked for room by itself.
 fn put_whole(out: &mut [u8], at: usize, text: &[u8]) -> usize
     requires { at + length text.now ≤ length out.old }
-    ensures { Writes out.old out.new at result text.now }
+    ensures { Writes out at result text.now }
 {
     let mut i: usize = 0;
     while i < text.len() {
@@ -29,7 +29,7 @@ fn put_whole(out: &mut [u8], at: usize, text: &[u8]) -> usize
 
 // A text, as far as it fits.
 fn put_part(out: &mut [u8], at: usize, text: &[u8]) -> usize
-    ensures { Writes out.old out.new at result text.now }
+    ensures { Writes out at result text.now }
 {
     let mut p = at;
     let mut i: usize = 0;
@@ -42,7 +42,7 @@ fn put_part(out: &mut [u8], at: usize, text: &[u8]) -> usize
 
 // A text.
 pub fn put_text(out: &mut [u8], at: usize, text: &[u8]) -> usize
-    ensures { Writes out.old out.new at result text.now }
+    ensures { Writes out at result text.now }
 {
     if at <= out.len() {
         if text.len() <= out.len() - at {
@@ -54,7 +54,7 @@ pub fn put_text(out: &mut [u8], at: usize, text: &[u8]) -> usize
 
 // A number in base ten: at most 20 calls deep, since MAX has 20 digits.
 fn put_digits(out: &mut [u8], at: usize, n: u64) -> usize
-    ensures { Writes out.old out.new at result (digits n) }
+    ensures { Writes out at result (digits n) }
 {
     if n < 10 {
         return put_byte(out, at, 48 + n as u8);
@@ -65,7 +65,7 @@ fn put_digits(out: &mut [u8], at: usize, n: u64) -> usize
 
 // A name and a number.
 pub(crate) fn put_field(out: &mut [u8], at: usize, name: &[u8], n: u64) -> usize
-    ensures { Writes out.old out.new at result (field name.now n) }
+    ensures { Writes out at result (field name.now n) }
 {
     let p = put_text(out, at, name);
     put_digits(out, p, n)
@@ -73,7 +73,7 @@ pub(crate) fn put_field(out: &mut [u8], at: usize, name: &[u8], n: u64) -> usize
 
 // A name and an interval.
 pub(crate) fn put_range(out: &mut [u8], at: usize, name: &[u8], low: u64, high: u64) -> usize
-    ensures { Writes out.old out.new at result (range name.now low high) }
+    ensures { Writes out at result (range name.now low high) }
 {
     let p = put_field(out, at, name, low);
     put_field(out, p, b"..", high)

@@ -45,7 +45,7 @@ fn set_field(text: &mut [u8], column: usize, n: u64)
 
 // A line: spaces, and in them the fields.
 fn put_sheet_line(out: &mut [u8], at: usize, a: u64, b: u64, c: u64) -> usize
-    ensures { Writes out.old out.new at result (sheet_line a b c) }
+    ensures { Writes out at result (sheet_line a b c) }
 {
     let mut text = [SPACE; LINE_BYTES];
     text[LINE_BYTES - 1] = LINE_FEED;
@@ -58,7 +58,7 @@ fn put_sheet_line(out: &mut [u8], at: usize, a: u64, b: u64, c: u64) -> usize
 // The inputs of a record, a line for each.
 fn put_inputs(report: &[u8], inputs: usize, k: usize, out: &mut [u8], at: usize) -> usize
     requires { (k < records_in inputs report.now) × (inputs ≤ most_inputs) }
-    ensures { Writes out.old out.new at result (input_lines 0 (said_at inputs report.now k).box) }
+    ensures { Writes out at result (input_lines 0 (said_at inputs report.now k).box) }
 {
     let mut p = at;
     let mut i: usize = 0;
@@ -74,7 +74,7 @@ fn put_inputs(report: &[u8], inputs: usize, k: usize, out: &mut [u8], at: usize)
 // The lines of a record.
 fn put_record(report: &[u8], inputs: usize, k: usize, out: &mut [u8], at: usize) -> usize
     requires { (k < records_in inputs report.now) × (inputs ≤ most_inputs) }
-    ensures { Writes out.old out.new at result (path_lines (said_at inputs report.now k)) }
+    ensures { Writes out at result (path_lines (said_at inputs report.now k)) }
 {
     let number = record_word(report, inputs, k, NUMBER);
     let kind = record_word(report, inputs, k, KIND);
@@ -86,7 +86,7 @@ fn put_record(report: &[u8], inputs: usize, k: usize, out: &mut [u8], at: usize)
 // The whole sheet at the start of `out`, as far as it fits; the answer is how many bytes of it stand there.
 pub(crate) fn put_sheet(report: &[u8], inputs: usize, out: &mut [u8]) -> usize
     requires { inputs ≤ most_inputs }
-    ensures { Prints out.old out.new result (sheet_text inputs report.now) }
+    ensures { Prints out result (sheet_text inputs report.now) }
 {
     let n = records_in(report, inputs);
     let mut p: usize = 0;

@@ -1,14 +1,10 @@
 // Test vectors as text: lines of hex numbers, with one byte between two numbers.
-// The programs that run a table of tests take it in and read it by this crate, and tell by it which lines differ.
+// The programs that run a table of tests read it by this crate, and tell by it which lines differ.
 // Every text is read: past its end there is no digit, and a number of no digits is 0.
 #![tactic(auto)]
 
 ghost use Rattle.std.specs.Prelude.{◌≡◌, ◌<◌, ◌≤◌, cond, take, drop, length, false, IfOk, OnErr};
-ghost use Rattle.std.specs.Io.KnownBytes.{Consumes, IsAtEnd};
 ghost use Rattle.vectors.specs.Working.Text.{digit_of, number_from, Ends};
-
-use std::io;
-use std::io::Read;
 
 // A number, and the place after the byte that ends it.
 #[derive(Drop)]
@@ -64,23 +60,6 @@ pub fn line_end(text: &[u8], from: usize) -> usize
         i += 1;
     }
     i
-}
-
-// Reads until the buffer is full or the input ends: how many bytes it put at the buffer's start. A read that fails ends it with that error.
-pub fn read_full<R: Read>(from: &mut R, buf: &mut [u8]) -> io::Result<usize>
-    ensures fits { IfOk result (λ n. n ≤ length buf.new) }
-    ensures bytes { IfOk result (λ n. Consumes (R.remaining from.old) (R.remaining from.new) (take n buf.new)) }
-    ensures end { IfOk result (λ n. n < length buf.new → IsAtEnd (R.remaining from.new)) }
-{
-    let mut done: usize = 0;
-    while done < buf.len() {
-        let n = from.read(&mut buf[done..])?;
-        if n == 0 {
-            return Ok(done);
-        }
-        done += n;
-    }
-    Ok(done)
 }
 
 // How many of this one test differ: 0, or 1 with its line's number printed. A print that fails changes no answer.

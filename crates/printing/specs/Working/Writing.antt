@@ -1,5 +1,6 @@
 -- A text written on a lent slice byte after byte, as far as it fits: what the contracts inside name.
 use Rattle.std.specs.Prelude.{◌≡◌, ℕ, ◌+◌, cond, List, [], ◌∷◌, ltb, length, set}
+use Rattle.riscu.specs.Lent.{LentMut}
 use Rattle.printing.specs.Output.{fitted, fitting}
 
 -- the slice, and where the next byte goes
@@ -18,10 +19,10 @@ unfoldable pub write : Output → List ℕ → Output
 write s [] = s
 write s (b ∷ bs) = write (push s b) bs
 
--- a text is written on a lent slice, from what it held to what it holds, from a place on, and r is where the next byte goes
-abbrev pub Writes : List ℕ → List ℕ → ℕ → ℕ → List ℕ → Type 0
-Writes old new at r text = output new r ≡ write (output old at) text
+-- a text is written on a lent slice from a place on, and r is where the next byte goes
+abbrev pub Writes : LentMut → ℕ → ℕ → List ℕ → Type 0
+Writes out at r text = output out.exit.now r ≡ write (output out.entry.now at) text
 
--- a whole text is written on a lent slice, from what it held to what it holds, and r is how many of its bytes stand there
-abbrev pub Prints : List ℕ → List ℕ → ℕ → List ℕ → Type 0
-Prints old new r text = (new ≡ fitted text old) × (r ≡ fitting text old)
+-- a whole text is written on a lent slice, and r is how many of its bytes stand there
+abbrev pub Prints : LentMut → ℕ → List ℕ → Type 0
+Prints out r text = (out.exit.now ≡ fitted text out.entry.now) × (r ≡ fitting text out.entry.now)

@@ -1,7 +1,7 @@
 -- The count stays within the buffer, whose start has what was read, and each turn leaves less to fill.
 use Rattle.std.proofs.Common.{◌≡◌, ◌-◌, ◌^◌, ◌≤◌, ◌<◌, length, take}
 use Rattle.std.specs.Io.KnownBytes.{Consumes}
-use Rattle.mirokefa.proofs.read_full.Given as goal
+use Rattle.input.proofs.read_full.Given as goal
 
 abbrev pub invariant-loop-done : goal.invariant-loop-done
 invariant-loop-done g l =
