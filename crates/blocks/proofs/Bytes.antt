@@ -1,7 +1,9 @@
 -- Words in bytes and back.
 -- Assumes nothing.
-use Rattle.std.proofs.Common.{◌≡◌, ℕ, zero, suc, ◌+◌, ◌*◌, ◌/◌, ◌^◌, ◌<◌, ◌≤◌, List, [], ◌∷◌, ◌++◌, length, get_or, take, drop, replicate, sym, refl, ap, ◌∙◌, append_assoc, append-nil, pow-suc, arith, length-append, length-drop, get_or-drop, drop-cons, drop-drop, take_at}
+use Rattle.std.proofs.Common.{◌≡◌, ℕ, zero, suc, ◌+◌, ◌*◌, ◌/◌, ◌^◌, ◌<◌, ◌≤◌, List, [], ◌∷◌, ◌++◌, length, get_or, take, drop, replicate, sym, refl, ap, ◌∙◌, append_assoc, append-nil, pow-suc, arith, length-append, length-drop, get_or-drop, drop-drop, take_at}
+use Rattle.std.specs.Int.{w64, to_le_bytes, from_le_bytes}
 use mathlib.Core.List.{flat_map}
+use native.Mathlib.Nat.{div-div-eq-div-mul}
 use lib.ListN.{length-replicate}
 use lib.Seq.{take-append-le, drop-append-le, drop-append-add}
 use Rattle.blocks.specs.Block.{word_bytes, block_bytes, payload_words, bytes_of, number_of, word_at, payload, block}
@@ -19,11 +21,7 @@ bytes_number (suc n) w l =
     let h : w < 256 ^ n * 256 = rw pow-suc at l in
     rw (bytes_number n (w / 256) (omega arith)) (omega arith)
 
--- a byte more in front, and the room for it
-pub number_more : (bs : List ℕ) (i n : ℕ) → i < length bs → number_of (take (suc n) (drop i bs)) ≡ get_or bs i 0 + 256 * number_of (take n (drop (suc i) bs))
-unfolding number_of
-number_more bs i n h = rw (drop-cons bs i 0 h)
-
+-- the room for a byte more in front
 pub below_more : (n b w : ℕ) → b < 256 → w < 256 ^ n → b + 256 * w < 256 ^ suc n
 below_more n b w hb hw = rw pow-suc (omega arith)
 
@@ -42,37 +40,15 @@ module _ (bs : List ℕ) (bytes : (k : ℕ) → get_or bs k 0 < 2 ^ 8) where
   pub word_below : (k : ℕ) → word_at bs k < 2 ^ 64
   word_below k = eight_below (k * word_bytes)
 
--- four bytes, and eight by halves
-module _ (bs : List ℕ) (i : ℕ) where
-  four_more : (n : ℕ) → i + 4 ≤ length bs
-      → number_of (take (4 + n) (drop i bs))
-      ≡ get_or bs i 0 + 256 * (get_or bs (i + 1) 0 + 256 * (get_or bs (i + 2) 0 + 256 * (get_or bs (i + 3) 0 + 256 * number_of (take n (drop (i + 4) bs)))))
-  four_more n h =
-      let e : 4 + n ≡ suc (suc (suc (suc n))) = omega arith in
-      let one : suc i ≡ i + 1 = omega arith in
-      let two : suc (i + 1) ≡ i + 2 = omega arith in
-      let three : suc (i + 2) ≡ i + 3 = omega arith in
-      let four : suc (i + 3) ≡ i + 4 = omega arith in
-      rw (
-        e,
-        number_more bs i (suc (suc (suc n))) (omega arith),
-        one,
-        number_more bs (i + 1) (suc (suc n)) (omega arith),
-        two,
-        number_more bs (i + 2) (suc n) (omega arith),
-        three,
-        number_more bs (i + 3) n (omega arith),
-        four,
-      )
+-- the library's bytes of a word, and its number of eight bytes
+pub bytes_eight : (w : ℕ) → to_le_bytes w64 w ≡ bytes_of word_bytes w
+unfolding bytes_of
+bytes_eight w = simp div-div-eq-div-mul
 
-  pub number_four : i + 4 ≤ length bs
-      → number_of (take 4 (drop i bs)) ≡ get_or bs i 0 + 256 * get_or bs (i + 1) 0 + 65536 * (get_or bs (i + 2) 0 + 256 * get_or bs (i + 3) 0)
-  unfolding number_of
-  number_four h = omega (arith, four_more 0 h)
-
-  pub number_halves : i + word_bytes ≤ length bs
-      → number_of (take word_bytes (drop i bs)) ≡ number_of (take 4 (drop i bs)) + 2 ^ 32 * number_of (take 4 (drop (i + 4) bs))
-  number_halves h = omega (arith, four_more 4 (omega arith), number_four (omega arith))
+pub number_eight : (bs : List ℕ) → length bs ≡ word_bytes → from_le_bytes w64 bs ≡ number_of bs
+unfolding number_of
+number_eight (a ∷ b ∷ c ∷ d ∷ e ∷ f ∷ g ∷ h ∷ []) l = omega arith
+number_eight _ l = absurd (omega arith)
 
 -- the bytes of words
 

@@ -2,13 +2,16 @@
 -- Assumes nothing.
 use Rattle.std.proofs.Common.{◌≡◌, ℕ, zero, suc, ◌+◌, ◌-◌, ◌<◌, ◌≤◌, Bool, true, false, ◌&&◌, eqb, refl, ◌∙◌, add-one, arith, eqb-true}
 use mathlib.Core.Bool.{and-eq-true_iff}
-use native.Mathlib.Nat.{sub-zero}
 use borrow.Author.Tests.{eqb-false}
+use Rattle.std.specs.List.{list_all, range_with_len}
 use Rattle.boxes.proofs.Lists.{by_test}
 use Rattle.blocks.specs.Block.{each}
 
-pub each_begin : (p : ℕ → Bool) (n : ℕ) → each p 0 n ≡ each p 0 (n - 0)
-each_begin p n = rw sub-zero
+-- the library's test of the numbers of a range
+pub each_list : (p : ℕ → Bool) (n k : ℕ) → list_all p (range_with_len k n) ≡ each p k n
+unfolding each
+each_list p zero k = refl
+each_list p (suc n) k = rw (each_list p n (k + 1), add-one)
 
 module _ (p : ℕ → Bool) (k e : ℕ) where
   pub each_end : e ≤ k → each p k (e - k) ≡ true

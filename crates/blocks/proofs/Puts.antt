@@ -1,15 +1,13 @@
 -- Elements written into a list from a place on.
 -- Assumes nothing.
-use Rattle.std.proofs.Common.{◌≡◌, ℕ, suc, ◌+◌, ◌/◌, ◌%◌, ◌<◌, ◌≤◌, List, [], ◌++◌, length, take, drop, set, append_assoc, append-nil, add-zero, add_assoc, arith, length-append, take-append-drop, length-take-le, drop-drop, take-suc-set, take_at, drop-set-lt, drop_at}
-use lib.Seq.{append_snoc}
-use Rattle.blocks.specs.Block.{bytes_of}
+use Rattle.std.proofs.Common.{◌≡◌, ℕ, ◌+◌, ◌≤◌, List, [], ◌++◌, length, take, drop, append_assoc, append-nil, add-zero, add_assoc, arith, length-append, take-append-drop, length-take-le, drop-drop, take_at, drop_at}
+use borrow.Rule.Slice.PartMut.{put_mid}
 use Rattle.blocks.specs.Working.Writing.{put}
 
--- one byte of a word more is written
-pub byte_more : (bs : List ℕ) (i e n r : ℕ) → i < length bs → i < e →
-    take i bs ++ bytes_of (suc n) r ++ drop e bs ≡ take (suc i) (set bs i (r % 256)) ++ bytes_of n (r / 256) ++ drop e (set bs i (r % 256))
-unfolding bytes_of
-byte_more bs i e n r h q = rw (take-suc-set bs i (r % 256) h, drop-set-lt e bs i (r % 256) q, append_snoc)
+-- what a write to a part of a list leaves
+pub put_part : (l : List ℕ) (at k : ℕ) {ys xs : List ℕ} → ys ≡ xs → k ≡ length xs → put_mid at k l ys ≡ put l at xs
+unfolding put
+put_part l at k e n = rw (e, n, append_assoc, drop-drop)
 
 pub put_none : (l : List ℕ) (at : ℕ) → put l at [] ≡ l
 unfolding put

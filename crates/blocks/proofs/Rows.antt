@@ -5,7 +5,8 @@ use mathlib.Core.List.{flat_map}
 use native.Mathlib.Numerals.{unary_clauses}
 use native.Mathlib.Nat.{zero-sub}
 use lib.ListN.{length-replicate, length-map, get_or-append}
-use lib.Seq.{sets, sets-eq, drop-append-le, drop-append-add}
+use lib.Seq.{sets, sets-eq, length-sets, drop-append-le, drop-append-add}
+use borrow.Rule.Slice.PartMut.{put_mid}
 use Rattle.boxes.specs.Boxes.{◌⋯◌}
 use Rattle.boxes.specs.Working.Cuts.{box_in}
 use Rattle.boxes.proofs.TwoLists.{lows_in, highs_in, length_in, at_in}
@@ -18,7 +19,19 @@ use Rattle.blocks.specs.Record.{record_bytes, most_inputs, padded, exit_word, fi
 use Rattle.blocks.specs.Working.Writing.{put, path_in, with_path}
 use Rattle.blocks.specs.declared.record.Ended.{Ended}
 use Rattle.blocks.proofs.Bytes.{get_d_padded, payload_length, block_length}
+use Rattle.blocks.proofs.Puts.{put_part}
 use Rattle.blocks.proofs.Written.{two_blocks}
+
+-- what writes to a part of a list, and to two, leave, as stores one by one
+part_sets : (l : List ℕ) (at : ℕ) {ys xs : List ℕ} → ys ≡ xs → at + length xs ≤ length l → put_mid at (at + length xs - at) l ys ≡ sets l at xs
+unfolding put
+part_sets l at {ys} {xs} e fits = put_part l at (at + length xs - at) e (omega arith) ∙ sym (sets-eq xs l at fits)
+
+two_sets : (l : List ℕ) (at bt : ℕ) {a b xs ys : List ℕ} → a ≡ xs → b ≡ ys → at + length xs ≤ length l → bt + length ys ≤ length l
+    → put_mid bt (bt + length ys - bt) (put_mid at (at + length xs - at) l a) b ≡ sets (sets l at xs) bt ys
+two_sets l at bt {a} {b} {xs} {ys} e f p q =
+    let one : put_mid at (at + length xs - at) l a ≡ sets l at xs = part_sets l at e p in
+    part_sets (put_mid at (at + length xs - at) l a) bt f (rw (one, length-sets) q) ∙ ap (λ (t : List ℕ). sets t bt ys) one
 
 -- the first block
 
@@ -113,10 +126,15 @@ module _ (p : Ended) (ls hs rls rhs : List ℕ) (few : length ls ≤ most_inputs
 
   -- the words that are stored, each by what it is
   pub first_made : {k x y z : ℕ} {a b : List ℕ} → k ≡ kind_number p.end → x ≡ exit_word p.end (get_or rls 10 0) → y ≡ exit_word p.end (get_or rhs 10 0)
-      → z ≡ reason_word p.end
-      → a ≡ sets (p.number ∷ k ∷ p.pc ∷ p.steps ∷ length ls ∷ (zeros ++ (zeros ++ (x ∷ y ∷ z ∷ p.reads ∷ unused)))) place.lows ls → b ≡ sets a place.highs hs
-      → b ≡ payload (first_words p.number (path_in p ls hs rls rhs))
-  first_made kind low high reason first second = second ∙ rw (first, kind, low, high, reason) first_is
+      → z ≡ reason_word p.end → a ≡ ls → b ≡ hs
+      → put_mid place.highs (place.highs + length hs - place.highs)
+      (put_mid place.lows (place.lows + length ls - place.lows)
+      (p.number ∷ k ∷ p.pc ∷ p.steps ∷ length ls ∷ (zeros ++ (zeros ++ (x ∷ y ∷ z ∷ p.reads ∷ unused)))) a) b
+      ≡ payload (first_words p.number (path_in p ls hs rls rhs))
+  first_made {k} {x} {y} {z} kind low high reason first second =
+      let words : List ℕ = p.number ∷ k ∷ p.pc ∷ p.steps ∷ length ls ∷ (zeros ++ (zeros ++ (x ∷ y ∷ z ∷ p.reads ∷ unused))) in
+      let size : length words ≡ payload_words = refl in
+      two_sets words place.lows place.highs first second (omega arith) (omega arith) ∙ rw (kind, low, high, reason) first_is
 
 -- the second block: two stores more
 

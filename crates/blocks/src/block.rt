@@ -7,7 +7,6 @@ ghost use Rattle.blocks.specs.Working.Writing.{put};
 
 use crate::byte_words::{put_word, word_at};
 use crate::{BLOCK_BYTES, PAYLOAD_WORDS, WORD_BYTES};
-use std::num::wrapping_add_u64;
 
 // What the running sum of a check starts at.
 const CHECK_START: u64 = 1;
@@ -19,7 +18,7 @@ const CHECK_AT: usize = PAYLOAD_WORDS * WORD_BYTES;
 fn turned(s: u64) -> u64
     ensures { result ≡ B.turned s }
 {
-    s % 9223372036854775808 * 2 + s / 9223372036854775808
+    s.rotate_left(1)
 }
 
 // The check of words 0 to 62 of the block at `at`.
@@ -28,10 +27,8 @@ fn check_of(bytes: &[u8], at: usize) -> u64
     ensures { result ≡ check (map (word_at (drop at bytes.now)) (from 0 payload_words)) }
 {
     let mut s = CHECK_START;
-    let mut k: usize = 0;
-    while k < PAYLOAD_WORDS {
-        s = wrapping_add_u64(turned(s), word_at(bytes, at + k * WORD_BYTES));
-        k += 1;
+    for k in 0..PAYLOAD_WORDS {
+        s = turned(s).wrapping_add(word_at(bytes, at + k * WORD_BYTES));
     }
     s
 }
@@ -48,25 +45,14 @@ fn checked(bytes: &[u8], at: usize) -> bool
 pub fn checks_agree(bytes: &[u8]) -> bool
     ensures { result ≡ checks_agree bytes.now }
 {
-    let n = bytes.len() / BLOCK_BYTES;
-    let mut k: usize = 0;
-    while k < n {
-        if !checked(bytes, k * BLOCK_BYTES) {
-            return false;
-        }
-        k += 1;
-    }
-    true
+    (0..bytes.len() / BLOCK_BYTES).all(|k| checked(bytes, k * BLOCK_BYTES))
 }
 
 // The word at a place, and 0 past the end.
 pub fn word_or_zero(words: &[u64], k: usize) -> u64
     ensures { result ≡ slice_index words.now k }
 {
-    if k < words.len() {
-        return words[k];
-    }
-    0
+    words.get(k).copied().unwrap_or(0)
 }
 
 // Writes the block of at most 63 words from `at` on: the words, zeros, the check.
@@ -75,12 +61,10 @@ pub fn put_block(bytes: &mut [u8], at: usize, words: &[u64])
     ensures { bytes.new ≡ put bytes.old at (block words.now) }
 {
     let mut s = CHECK_START;
-    let mut k: usize = 0;
-    while k < PAYLOAD_WORDS {
+    for k in 0..PAYLOAD_WORDS {
         let w = word_or_zero(words, k);
         put_word(bytes, at + k * WORD_BYTES, w);
-        s = wrapping_add_u64(turned(s), w);
-        k += 1;
+        s = turned(s).wrapping_add(w);
     }
     put_word(bytes, at + CHECK_AT, s);
 }

@@ -1,6 +1,5 @@
 // An ended path's two blocks.
 ghost use Rattle.std.specs.Prelude.{◌≡◌, ◌+◌, ◌≤◌, ◌∷◌, length, drop};
-ghost use Rattle.std.proofs.lemmas.List.Edits.{sets};
 ghost use Rattle.boxes.specs.Working.Cuts.{box_in};
 ghost use Rattle.blocks.specs.Block.{payload_words, payload};
 ghost use Rattle.blocks.specs.Record.{most_inputs, record_bytes, exit_word, ends, first_words};
@@ -11,7 +10,7 @@ use crate::layout::{
     EXIT_HIGH, EXIT_LOW, HIGHS, INPUTS, KIND, LOWS, NUMBER, PC, READS, REASON, STEPS,
 };
 use crate::{BLOCK_BYTES, PAYLOAD_WORDS};
-use listing::{End, kind_number, reason_word};
+use listing::End;
 
 // An ended path, but for its inputs and registers, which come beside it.
 #[derive(Clone, Copy)]
@@ -29,35 +28,8 @@ fn exit_word(e: End, v: u64) -> u64
 {
     match e {
         End::Exit => v,
-        End::BadPc => 0,
-        End::BadWord => 0,
-        End::BadAddress => 0,
-        End::BadCall => 0,
-        End::StepLimit => 0,
-        End::NotFollowed(_) => 0,
-        End::TraceFull => 0,
+        _ => 0,
     }
-}
-
-// The words with others from `at` on.
-fn with_words(words: [u64; PAYLOAD_WORDS], at: usize, others: &[u64]) -> [u64; PAYLOAD_WORDS]
-    requires { at + length others.now ≤ payload_words }
-    ensures { result ≡ sets words at others.now }
-{
-    let mut out = words;
-    let mut i: usize = 0;
-    while i < others.len() {
-        out[at + i] = others[i];
-        i += 1;
-    }
-    out
-}
-
-// The array itself: a result by value brings its length.
-fn whole(a: &[u64; 32]) -> [u64; 32]
-    ensures { result ≡ a.now }
-{
-    *a
 }
 
 // The words of a path's first block.
@@ -72,34 +44,30 @@ fn first_words(
     ensures { result ≡ payload (first_words p.number (path_lent p lows highs register_lows register_highs)) }
 {
     let end = p.end;
-    let l = whole(register_lows);
-    let h = whole(register_highs);
     let mut words = [0u64; PAYLOAD_WORDS];
     words[NUMBER] = p.number;
-    words[KIND] = kind_number(end);
+    words[KIND] = end.kind_number();
     words[PC] = p.pc;
     words[STEPS] = p.steps;
     words[INPUTS] = lows.len() as u64;
-    words[EXIT_LOW] = exit_word(end, l[10]);
-    words[EXIT_HIGH] = exit_word(end, h[10]);
-    words[REASON] = reason_word(end);
+    words[EXIT_LOW] = exit_word(end, register_lows[10]);
+    words[EXIT_HIGH] = exit_word(end, register_highs[10]);
+    words[REASON] = end.reason_word();
     words[READS] = p.reads;
-    with_words(with_words(words, LOWS, lows), HIGHS, highs)
+    words[LOWS..LOWS + lows.len()].copy_from_slice(lows);
+    words[HIGHS..HIGHS + highs.len()].copy_from_slice(highs);
+    words
 }
 
 // The words of a path's second block.
 fn second_words(number: u64, lows: &[u64; 32], highs: &[u64; 32]) -> [u64; PAYLOAD_WORDS]
     ensures { result ≡ number ∷ ends (drop 1 (box_in lows.now highs.now)) }
 {
-    let l = whole(lows);
-    let h = whole(highs);
     let mut words = [0u64; PAYLOAD_WORDS];
     words[0] = number;
-    let mut r: usize = 1;
-    while r < 32 {
-        words[2 * r - 1] = l[r];
-        words[2 * r] = h[r];
-        r += 1;
+    for r in 1..32 {
+        words[2 * r - 1] = lows[r];
+        words[2 * r] = highs[r];
     }
     words
 }

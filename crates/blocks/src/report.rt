@@ -1,4 +1,5 @@
 // A lent report read back, record by record; `inputs` is the input count of its paths.
+// It stands beside the report: of a struct that holds both, each clause would name `report.entry.bytes.now` for `report.now`.
 ghost use Rattle.std.specs.Prelude.{◌≡◌, ◌<◌, ◌≤◌};
 ghost use Rattle.blocks.specs.Block.{word_at};
 ghost use Rattle.blocks.specs.Layout as place;

@@ -2,19 +2,16 @@
 -- Assumes nothing.
 use mathlib.Core.Path.{◌≡◌, refl, sym, ap, ◌∙◌}
 use mathlib.Core.Logic.{◌↔◌, ⊎_elim}
-use mathlib.Core.Bool.{Bool, true, false, not, ◌&&◌}
+use mathlib.Core.Bool.{Bool, true, false, not}
 use mathlib.Core.List.Memᴰ
 use mathlib.Core.List.Memᴰ.{head as here}
 use mathlib.Core.List.Memᴰ.{tail as there}
 use mathlib.Core.List.{List, [], ◌∷◌, ◌++◌}
 use mathlib.Core.Option.{none, some}
-use Prim.Native.Nat.{ℕ, suc, ◌+◌, ◌-◌, ◌<◌, ◌≤◌}
-use native.Mathlib.Numerals.{add-one}
+use Prim.Native.Nat.{ℕ}
 use native.Mathlib.Omega.{arith}
-use borrow.Author.Tests.{lt-leb, le-leb, not-false}
-use lib.Dec.{leb}
-use lib.ListN.{length, get_or, drop, length-drop}
-use lib.Seq.{drop-cons}
+use borrow.Author.Tests.{not-false}
+use lib.ListN.{length}
 use Rattle.boxes.proofs.Lists.{by_test}
 use Rattle.listing.specs.First.{first}
 use Rattle.listing.proofs.First.{stops, goes, passes, first_none}
@@ -23,13 +20,6 @@ use Rattle.calls.specs.Questions.{Question, ◌otherwise◌, AllYes, code_fits, 
 use Rattle.calls.specs.Call.{Call, inputs_of, box_of, questions, refusal_of}
 use Rattle.calls.specs.Refuses.{FirstNo}
 use Rattle.calls.specs.declared.Refusal.{Refusal}
-
--- a yes and a no; the code's answer t is the definition's
-pub asked_yes : (r : Refusal) (qs : List Question) {t u : Bool} → t ≡ u → not t ≡ false → first qs ≡ first ((u otherwise r) ∷ qs)
-asked_yes r qs {u = u} e y = goes (u otherwise r) qs (ap not (sym e) ∙ y)
-
-pub asked_no : (r : Refusal) (qs : List Question) {t u : Bool} → t ≡ u → not t ≡ true → some r ≡ first ((u otherwise r) ∷ qs)
-asked_no r qs {u = u} e n = stops (u otherwise r) qs (ap not (sym e) ∙ n)
 
 -- a test that holds
 pub yes_on : (r : Refusal) (qs : List Question) {u : Bool} → u ≡ true → first qs ≡ first ((u otherwise r) ∷ qs)
@@ -102,28 +92,3 @@ first_no qs r = (placed qs, λ f. rw f.place (stopped f.before f.question f.afte
     stopped [] q after h n e = sym (stops q after n) ∙ ap (λ (x : Refusal). some x) e
     stopped (p ∷ before) q after h n e =
         sym (goes p (before ++ q ∷ after) (h p (here refl))) ∙ stopped before q after (λ x m. h x (there m)) n e
-
-short : (v : List ℕ) → length v < 2 → in_order (box_of v) ≡ true
-unfolding in_order box_of
-short [] h = refl
-short (a ∷ []) h = refl
-short (a ∷ (b ∷ v)) h = absurd (omega arith)
-
-module _ (l : List ℕ) (k : ℕ) where
-  -- no whole pair is left
-  pub pairs_end : length l - k < 2 → in_order (box_of (drop k l)) ≡ true
-  pairs_end h = short (drop k l) (rw length-drop h)
-
-  pair : 2 ≤ length l - k → in_order (box_of (drop k l)) ≡ leb (get_or l k 0) (get_or l (k + 1) 0) && in_order (box_of (drop (k + 2) l))
-  unfolding in_order box_of
-  pair h =
-      let a : k < length l = omega arith in
-      let b : suc k < length l = omega arith in
-      let e : k + 2 ≡ suc (suc k) = omega arith in
-      rw (e, add-one, drop-cons l k 0 a, drop-cons l (suc k) 0 b)
-
-  pub pairs_stop : 2 ≤ length l - k → get_or l (k + 1) 0 < get_or l k 0 → in_order (box_of (drop k l)) ≡ false
-  pairs_stop h lt = pair h ∙ rw (lt-leb _ _ lt)
-
-  pub pairs_go : 2 ≤ length l - k → get_or l k 0 ≤ get_or l (k + 1) 0 → in_order (box_of (drop k l)) ≡ in_order (box_of (drop (k + 2) l))
-  pairs_go h le = pair h ∙ rw (le-leb _ _ le)

@@ -9,6 +9,8 @@ use mathlib.Core.Option.{Option, none, some}
 use Prim.Native.Nat.{ℕ, ◌-◌, ◌≤◌}
 use native.Mathlib.Omega.{arith}
 use lib.Dec.{eqb}
+use Rattle.std.specs.Int.{from_bool}
+use Rattle.std.specs.Prelude.{Ok, Err}
 use lib.ListN.{get_or}
 use borrow.Author.Tests.{ne_eqb}
 use Rattle.listing.specs.First.{first}
@@ -16,13 +18,11 @@ use Rattle.listing.proofs.First.{none_applies}
 use Rattle.calls.specs.Questions.{number, Question}
 use Rattle.calls.specs.Refuses.{TellsNo}
 use Rattle.calls.proofs.Asked.{first_no}
-use Rattle.calls.specs.Call.{written, more, is_page}
+use Rattle.calls.specs.Call.{Answer, written, more, is_page}
 use Rattle.calls.specs.Border.{refusal_by, refused_number, SaysRefusal, yes_number, reply_of, InNumbers}
 use Rattle.calls.specs.declared.Refusal.{Refusal}
 use Rattle.calls.specs.declared.Refusal.TheVariants.{Code, Inputs, Order, Limit, Table, Memory, Report, First}
 use Rattle.calls.specs.declared.Refusal.TheVariants.{Blocks, Check, Form, Records, Rows, Space, Size, Paths}
-use Rattle.calls.specs.declared.Answer.{Answer}
-use Rattle.calls.specs.declared.Answer.TheVariants.{Refused, Page}
 use Rattle.calls.specs.declared.Outcome.{Outcome}
 
 -- the refusals in the order of their numbers, 1 to 16
@@ -96,15 +96,23 @@ refused_either (some r) = inr (r, refl)
 -- 0 is the number of a page alone
 pub accepted_page : (a : Answer) → eqb (reply_of a).refused 0 ≡ is_page a
 unfolding is_page
-accepted_page (Refused r) = ne_eqb (number r) 0 (λ e. absurd (omega (arith, (numbered r).least)))
-accepted_page (Page n m) = refl
+accepted_page (Err r) = ne_eqb (number r) 0 (λ e. absurd (omega (arith, (numbered r).least)))
+accepted_page (Ok p) = refl
+
+-- std's number of a yes
+pub yes_from : (yes : Bool) {n : ℕ} → n ≡ from_bool yes → n ≡ yes_number yes
+yes_from true e = e
+yes_from false e = e
+
+yes_back : (yes : Bool) → not (eqb (yes_number yes) 0) ≡ yes
+yes_back true = refl
+yes_back false = refl
 
 -- and its numbers say which page it is
-pub page_said : (a : Answer) → is_page a ≡ true → Page (reply_of a).count (not (eqb (reply_of a).more 0)) ≡ a
+pub page_said : (a : Answer) → is_page a ≡ true → Ok (record { count = (reply_of a).count; more = not (eqb (reply_of a).more 0) }) ≡ a
 unfolding is_page written more
-page_said (Refused r) e = let z : ◌≡◌ {A = ℕ} 0 1 = cc in absurd (omega arith)
-page_said (Page n true) e = refl
-page_said (Page n false) e = refl
+page_said (Err r) e = let z : ◌≡◌ {A = ℕ} 0 1 = cc in absurd (omega arith)
+page_said (Ok p) e = ap (λ (m : Bool). Ok (record p { more = m })) (yes_back p.more)
 
 pub reply_numbers : (a : Answer) → InNumbers (reply_of a) a
 reply_numbers a = record { refusal = says_refusal (refusal_by a); count = refl; further = refl }
@@ -118,10 +126,9 @@ yes_injective false false e = refl
 -- answers with the same numbers are the same
 pub reply_injective : (a b : Answer) → reply_of a ≡ reply_of b → a ≡ b
 unfolding written more
-reply_injective (Refused q) (Refused r) e = ap Refused (number_injective q r (ap (λ (o : Outcome). o.refused) e))
-reply_injective (Refused q) (Page k l) e = absurd (omega (arith, (numbered q).least, ap (λ (o : Outcome). o.refused) e))
-reply_injective (Page n m) (Refused r) e = absurd (omega (arith, (numbered r).least, ap (λ (o : Outcome). o.refused) e))
-reply_injective (Page n m) (Page k l) e =
-    let count : n ≡ k = ap (λ (o : Outcome). o.count) e in
-    let further : m ≡ l = yes_injective m l (ap (λ (o : Outcome). o.more) e) in
-    cc (count, further)
+reply_injective (Err q) (Err r) e = ap (λ (x : Refusal). Err x) (number_injective q r (ap (λ (o : Outcome). o.refused) e))
+reply_injective (Err q) (Ok p) e = absurd (omega (arith, (numbered q).least, ap (λ (o : Outcome). o.refused) e))
+reply_injective (Ok p) (Err r) e = absurd (omega (arith, (numbered r).least, ap (λ (o : Outcome). o.refused) e))
+reply_injective (Ok p) (Ok q) e =
+    let further : p.more ≡ q.more = yes_injective p.more q.more (ap (λ (o : Outcome). o.more) e) in
+    ap (λ (n : ℕ). Ok (record p { count = n })) (ap (λ (o : Outcome). o.count) e) ∙ ap (λ (m : Bool). Ok (record q { more = m })) further

@@ -1,18 +1,16 @@
 -- The answer's numbers at the border, and what is lent, as contracts name it.
-use Rattle.std.specs.Prelude.{ℕ, ◌≡◌, ◌↔◌, Bool, true, false}
+use Rattle.std.specs.Prelude.{ℕ, ◌≡◌, ◌↔◌, Bool, true, false, Ok, Err}
 use Rattle.std.proofs.Math.Option.{Option, none, some}
 use Rattle.riscu.specs.Lent.{LentList, LentMut}
 use Rattle.calls.specs.Questions.{number}
-use Rattle.calls.specs.Call.{Call, call_of, written, more, Left, called}
+use Rattle.calls.specs.Call.{Call, call_of, Answer, written, more, Left, called}
 use Rattle.calls.specs.declared.Refusal.{Refusal}
-use Rattle.calls.specs.declared.Answer.{Answer}
-use Rattle.calls.specs.declared.Answer.TheVariants.{Refused, Page}
 use Rattle.calls.specs.declared.Outcome.{Outcome}
 
 -- the refusal of an answer, if it is one
 abbrev pub refusal_by : Answer → Option Refusal
-refusal_by (Refused r) = some r
-refusal_by (Page n m) = none
+refusal_by (Err r) = some r
+refusal_by (Ok p) = none
 
 -- its number: the refusal's, or 0
 abbrev pub refused_number : Option Refusal → ℕ

@@ -1,5 +1,5 @@
 -- One call: what is lent, the questions, and what the call leaves.
-use Rattle.std.specs.Prelude.{ℕ, ◌+◌, ◌*◌, ◌/◌, ◌^◌, ◌<◌, Bool, true, false, List, [], ◌∷◌, ◌++◌, ltb, length, get_or, take, drop, replicate}
+use Rattle.std.specs.Prelude.{ℕ, ◌+◌, ◌*◌, ◌/◌, ◌^◌, ◌<◌, Bool, true, false, List, [], ◌∷◌, ◌++◌, ltb, length, get_or, take, drop, replicate, Result, Ok, Err}
 use Rattle.std.proofs.Math.Option.{Option, none, some}
 use Rattle.boxes.specs.Boxes.{Box, ◌⋯◌}
 use Rattle.listing.specs.First.{first}
@@ -11,8 +11,7 @@ use Rattle.calls.specs.Limits.{entry_words}
 use Rattle.calls.specs.Questions.{Question, ◌otherwise◌, code_fits, intervals_fit, in_order, limit_fits, table_fits, memory_fits, report_fits, first_fits}
 use Rattle.calls.specs.declared.Refusal.{Refusal}
 use Rattle.calls.specs.declared.Refusal.TheVariants.{Code, Inputs, Order, Limit, Table, Memory, Report, First}
-use Rattle.calls.specs.declared.Answer.{Answer}
-use Rattle.calls.specs.declared.Answer.TheVariants.{Refused, Page}
+use Rattle.calls.specs.declared.Page.{Page}
 
 -- what a call lends besides memory and the trace table
 pub record Call : Type 0 where
@@ -43,19 +42,23 @@ pub record Typed (c : Call) : Type 0 where
   pub bytes : length c.report < 2 ^ 64
   pub first : c.first < 2 ^ 64
 
+-- What an exploration answers: a page, or the refusal.
+abbrev pub Answer : Type 0
+Answer = Result Page Refusal
+
 -- What an answer says: how many paths are written, whether a further path exists, whether the call was accepted.
 
 unfoldable pub written : Answer → ℕ
-written (Refused r) = 0
-written (Page n m) = n
+written (Err r) = 0
+written (Ok p) = p.count
 
 unfoldable pub more : Answer → Bool
-more (Refused r) = false
-more (Page n m) = m
+more (Err r) = false
+more (Ok p) = p.more
 
 unfoldable pub is_page : Answer → Bool
-is_page (Refused r) = false
-is_page (Page n m) = true
+is_page (Err r) = false
+is_page (Ok p) = true
 
 -- low, high, low, high, ..
 unfoldable pub box_of : List ℕ → Box
@@ -95,12 +98,12 @@ pub record Reply : Type 0 where
   pub report : List ℕ
 
 unfoldable pub reply_by : List ℕ → ℕ → Call → Option Refusal → Reply
-reply_by memory words c (some r) = record { answer = Refused r; report = c.report }
+reply_by memory words c (some r) = record { answer = Err r; report = c.report }
 reply_by memory words c none =
     let l = listing (job_of memory words c) in
     let ps = page (job_of memory words c) c in
     record {
-      answer = Page (length ps) (ltb (c.first + length ps) (length l));
+      answer = Ok (record { count = length ps; more = ltb (c.first + length ps) (length l) });
       report = records c.first ps ++ drop (record_bytes (inputs_of c) * length ps) c.report;
     }
 

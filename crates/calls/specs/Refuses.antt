@@ -1,12 +1,11 @@
 -- Demand 1: an exploration that finishes, or a numbered refusal, given only for its stated cause.
-use Rattle.std.specs.Prelude.{◌≡◌, ◌↔◌, ℕ, true, false, List, [], ◌∷◌, ◌++◌, length}
+use Rattle.std.specs.Prelude.{◌≡◌, ◌↔◌, ℕ, true, false, List, [], ◌∷◌, ◌++◌, length, Err}
 use Rattle.listing.specs.Group.{view_of}
 use Rattle.listing.specs.Listing.{moves, enough}
 use Rattle.calls.specs.Questions.{number, Question, No, AllYes}
 use Rattle.calls.specs.Call.{Call, Left, questions, written, more, is_page, job_of}
 use Rattle.calls.specs.Engine.{Engine}
 use Rattle.calls.specs.declared.Refusal.{Refusal}
-use Rattle.calls.specs.declared.Answer.TheVariants.{Refused}
 
 -- of some questions, the first with the answer no gives refusal r
 pub record FirstNo (asked : List Question) (r : Refusal) : Type 0 where
@@ -33,11 +32,11 @@ pub record Unchanged (memory table : List ℕ) (c : Call) (l : Left) : Type 0 wh
 
 pub record Refuses (memory table : List ℕ) (c : Call) (l : Left) : Type 0 where
   -- the first no decides: a call is refused exactly if the first no gives that refusal
-  pub refused : (r : Refusal) → (l.reply.answer ≡ Refused r) ↔ FirstNo (questions memory (length table) c) r
+  pub refused : (r : Refusal) → (l.reply.answer ≡ Err r) ↔ FirstNo (questions memory (length table) c) r
   -- and accepted exactly if every question has the answer yes
   pub accepted : (is_page l.reply.answer ≡ true) ↔ AllYes (questions memory (length table) c)
   -- a refusal reports zero paths and changes nothing lent
-  pub unchanged : (r : Refusal) → l.reply.answer ≡ Refused r → Unchanged memory table c l
+  pub unchanged : (r : Refusal) → l.reply.answer ≡ Err r → Unchanged memory table c l
   -- the exploration of an accepted call finishes: in the end no group waits
   pub finishes : is_page l.reply.answer ≡ true → let j = job_of memory (length table) c in (moves view_of j (enough j)).waiting ≡ []
 

@@ -5,53 +5,45 @@
 
 ghost use Rattle.std.specs.Prelude.{◌≡◌};
 ghost use Rattle.calls.specs.Questions.{number};
-ghost use Rattle.calls.specs.Border.{refused_number, yes_number, reply_of};
+ghost use Rattle.calls.specs.Border.{refused_number, reply_of};
 ghost use Rattle.calls.specs.Done.{refusal_from};
 
 pub mod questions;
 
-// Why a call is refused: every cause of the papers. 1 to 8 are asked of an exploration, 9 to 11 of a job in blocks, 12 and 13 of a
-// report and of rows, 14 of a space to write, 15 and 16 of a job whose choices are counted.
-#[derive(Clone, Copy)]
+// Why a call is refused, with the papers' number of every cause. 1 to 8 are asked of an exploration, 9 to 11 of a job in blocks, 12 and 13
+// of a report and of rows, 14 of a space to write, 15 and 16 of a job whose choices are counted.
+#[derive(Clone, Copy, PartialEq, Eq, Debug)]
 pub enum Refusal {
-    Code,
-    Inputs,
-    Order,
-    Limit,
-    Table,
-    Memory,
-    Report,
-    First,
-    Blocks,
-    Check,
-    Form,
-    Records,
-    Rows,
-    Space,
-    Size,
-    Paths,
+    Code = 1,
+    Inputs = 2,
+    Order = 3,
+    Limit = 4,
+    Table = 5,
+    Memory = 6,
+    Report = 7,
+    First = 8,
+    Blocks = 9,
+    Check = 10,
+    Form = 11,
+    Records = 12,
+    Rows = 13,
+    Space = 14,
+    Size = 15,
+    Paths = 16,
 }
 
-// What the questions come to: none is answered no, or the first that is.
+// A page of a listing: how many paths are written, and whether a further path exists.
 #[derive(Clone, Copy)]
-pub enum Questioned {
-    AllYes,
-    No(Refusal),
+pub struct Page {
+    pub count: u64,
+    pub more: bool,
 }
 
 // What an exploration answers.
-#[derive(Clone, Copy)]
-pub enum Answer {
-    Refused(Refusal),
-    Page { count: u64, more: bool },
-}
+pub type Answer = Result<Page, Refusal>;
 
 // What a call answers that is done or refused: how much was done.
-#[derive(Clone, Copy)]
-pub enum Completion {
-    Refused(Refusal),
-    Done(u64),
-}
+pub type Completion = Result<u64, Refusal>;
 
 // An answer in numbers, for the C border: the refusal's number or 0, the paths written, and 1 if a further path exists.
 #[repr(C)]
@@ -63,51 +55,32 @@ pub struct Outcome {
 }
 
 // The number of a refusal.
-pub fn refusal_number(r: Refusal) -> u64
-    ensures { result ≡ number r }
-{
-    match r {
-        Refusal::Code => 1,
-        Refusal::Inputs => 2,
-        Refusal::Order => 3,
-        Refusal::Limit => 4,
-        Refusal::Table => 5,
-        Refusal::Memory => 6,
-        Refusal::Report => 7,
-        Refusal::First => 8,
-        Refusal::Blocks => 9,
-        Refusal::Check => 10,
-        Refusal::Form => 11,
-        Refusal::Records => 12,
-        Refusal::Rows => 13,
-        Refusal::Space => 14,
-        Refusal::Size => 15,
-        Refusal::Paths => 16,
+impl From<Refusal> for u64 {
+    ghost from_gives = { λ r n. n ≡ number r };
+
+    fn from(r: Refusal) -> u64 {
+        r as u64
     }
 }
 
-// 1 for yes, 0 for no.
-pub fn yes_number(yes: bool) -> u64
-    ensures { result ≡ yes_number yes }
-{
-    if yes { 1 } else { 0 }
-}
-
 // An answer in numbers.
-pub fn reply(a: Answer) -> Outcome
-    ensures { result ≡ reply_of a }
-{
-    match a {
-        Answer::Refused(r) => Outcome {
-            refused: refusal_number(r),
-            count: 0,
-            more: 0,
-        },
-        Answer::Page { count, more } => Outcome {
-            refused: 0,
-            count,
-            more: yes_number(more),
-        },
+#[tactic(auto, unfolding(crate::specs::Call::written, crate::specs::Call::more))]
+impl From<Answer> for Outcome {
+    ghost from_gives = { λ a o. o ≡ reply_of a };
+
+    fn from(a: Answer) -> Outcome {
+        match a {
+            Err(r) => Outcome {
+                refused: u64::from(r),
+                count: 0,
+                more: 0,
+            },
+            Ok(page) => Outcome {
+                refused: 0,
+                count: page.count,
+                more: u64::from(page.more),
+            },
+        }
     }
 }
 
@@ -115,8 +88,5 @@ pub fn reply(a: Answer) -> Outcome
 pub fn completion_number(a: Completion) -> u64
     ensures { result ≡ refused_number (refusal_from a) }
 {
-    match a {
-        Completion::Refused(r) => refusal_number(r),
-        Completion::Done(_) => 0,
-    }
+    a.map_or_else(u64::from, |_| 0)
 }

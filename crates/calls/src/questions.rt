@@ -1,11 +1,11 @@
 // The questions, asked in document 01's order; the first no decides.
-ghost use Rattle.std.specs.Prelude.{◌≡◌};
+ghost use Rattle.std.specs.Prelude.{◌≡◌, IsTrue, IsFalse, OnOk, IfErr};
 ghost use Rattle.blocks.specs.Record.{record_bytes};
 ghost use Rattle.calls.specs.Call.{call_of, box_of};
 ghost use Rattle.calls.specs.Questions.{code_fits, inputs_fit, intervals_fit, in_order, limit_fits, table_fits, memory_fits, report_fits, first_fits};
 ghost use Rattle.calls.specs.Working.Asking.{refusal_in, refusal_on};
 
-use crate::{Questioned, Refusal};
+use crate::Refusal;
 use blocks::MOST_INPUTS;
 use blocks::report::record_bytes;
 use riscu::plain::Machine;
@@ -47,14 +47,7 @@ pub fn intervals_fit(words: u64) -> bool
 pub fn in_order(intervals: &[u64]) -> bool
     ensures { result ≡ in_order (box_of intervals.now) }
 {
-    let mut k: usize = 0;
-    while 2 <= intervals.len() - k {
-        if intervals[k + 1] < intervals[k] {
-            return false;
-        }
-        k += 2;
-    }
-    true
+    intervals.chunks_exact(2).all(|pair| pair[0] <= pair[1])
 }
 
 // 4: a limit of 1 to 65,536 steps.
@@ -92,7 +85,16 @@ pub fn first_fits(path: u64) -> bool
     path < FIRST_END
 }
 
+// A question's answer: no gives the refusal.
+pub fn require(yes: bool, r: Refusal) -> Result<(), Refusal>
+    ensures yes { OnOk result (IsTrue yes) }
+    ensures no { IfErr result (λ e. IsFalse yes × (e ≡ r)) }
+{
+    if yes { Ok(()) } else { Err(r) }
+}
+
 // The questions of an exploration, in their order.
+#[tactic(auto, unfolding(crate::specs::Call::questions, listing::specs::First::first))]
 pub fn ask(
     code: &[u32],
     memory: &[u64],
@@ -101,32 +103,18 @@ pub fn ask(
     table: &[u64],
     report: &[u8],
     first: u64,
-) -> Questioned
+) -> Result<(), Refusal>
     ensures { refusal_in result ≡ refusal_on memory table (call_of code.now intervals.now limit report.now first) }
 {
-    if !code_fits(code.len() as u64) {
-        return Questioned::No(Refusal::Code);
-    }
-    if !intervals_fit(intervals.len() as u64) {
-        return Questioned::No(Refusal::Inputs);
-    }
-    if !in_order(intervals) {
-        return Questioned::No(Refusal::Order);
-    }
-    if !limit_fits(limit) {
-        return Questioned::No(Refusal::Limit);
-    }
-    if !table_fits(table.len()) {
-        return Questioned::No(Refusal::Table);
-    }
-    if !memory_fits(memory.len()) {
-        return Questioned::No(Refusal::Memory);
-    }
-    if !report_fits(intervals.len() / 2, report.len()) {
-        return Questioned::No(Refusal::Report);
-    }
-    if !first_fits(first) {
-        return Questioned::No(Refusal::First);
-    }
-    Questioned::AllYes
+    require(code_fits(code.len() as u64), Refusal::Code)?;
+    require(intervals_fit(intervals.len() as u64), Refusal::Inputs)?;
+    require(in_order(intervals), Refusal::Order)?;
+    require(limit_fits(limit), Refusal::Limit)?;
+    require(table_fits(table.len()), Refusal::Table)?;
+    require(memory_fits(memory.len()), Refusal::Memory)?;
+    require(
+        report_fits(intervals.len() / 2, report.len()),
+        Refusal::Report,
+    )?;
+    require(first_fits(first), Refusal::First)
 }

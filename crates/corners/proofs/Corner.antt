@@ -20,8 +20,7 @@ use Rattle.riscu.specs.declared.Operation.{Operation}
 use Rattle.riscu.specs.declared.Operation.TheVariants.{Add, Sub, Mul, Divu, Remu, Sltu}
 use Rattle.riscu.specs.declared.Instruction.{Instruction}
 use Rattle.riscu.specs.declared.Instruction.TheVariants.{Lui, Immediate, Register, Ld, Sd, Branch, Jal, Jalr, Ecall}
-use Rattle.riscu.specs.declared.Decoded.{Decoded}
-use Rattle.riscu.specs.declared.Decoded.TheVariants.{Row, NoRow}
+use Rattle.std.specs.Prelude.{Option as Maybe, Some, None}
 use Rattle.listing.specs.Group.{Job, Group, after, sort_of, sorting_of, operand, class_of, View, view_of}
 use Rattle.listing.specs.Ending.{Point, ◌⇒◌, first, bad_address, operand_open, both_open, two_open, far_apart}
 use Rattle.listing.specs.Ending.{operation_points, operand_points, address_points, points, needs, end_at, end_by, end_of}
@@ -172,10 +171,10 @@ module _ (j : Job) (g : Group) (good : Good j g) where
       sym (corner_pieces_lem (λ c. class_of i (after j g.steps c)) (input_of j g i) _ g.box proper (class_one i h)
       (omega (arith, good.sound.inputs (input_of j g i))) (omega arith) (omega arith))
 
-  at_agrees : (d : Decoded) → end_at j g (view_of j g) d ≡ end_at j g (corners_of j g) d
+  at_agrees : (d : Maybe Instruction) → end_at j g (view_of j g) d ≡ end_at j g (corners_of j g) d
   unfolding end_at needs
-  at_agrees NoRow = refl
-  at_agrees (Row i) =
+  at_agrees None = refl
+  at_agrees (Some i) =
       let full : View → List Point = λ v. (ltb (j.entries - g.used) (needs g v i) ⇒ TraceFull) ∷ [] in
       (append_agrees (points (view_of j g) i) (points (corners_of j g) i) {rs = full (view_of j g)} {ts = full (corners_of j g)} (points_agree i)
       (λ n. then (cc (pieces_agree i (points_followed j g i n).0)) (λ _. done))).agrees

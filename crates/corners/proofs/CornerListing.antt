@@ -9,7 +9,7 @@ use native.Mathlib.Omega.{arith}
 use native.Mathlib.Decide.{dec_le}
 use Rattle.boxes.specs.Boxes.{Interval, ◌⋯◌, from, ◌∈◌}
 use Rattle.riscu.specs.Machine.{reg}
-use Rattle.riscu.specs.declared.Decoded.TheVariants.{Row}
+use Rattle.std.specs.Prelude.{Some}
 use Rattle.listing.specs.Group.{Job, Group, View, view_of}
 use Rattle.listing.specs.Ending.{needs, end_of}
 use Rattle.listing.specs.Listing.{Path, Progress, progress, path_of, split_by, move_by, move_from, moves, enough, listing}
@@ -37,7 +37,7 @@ module _ (j : Job) (g : Group) (good : Good j g) where
       })
       (fun_ext interval)
 
-  split_agrees : (k : Continues j g) → split_by g (view_of j g) (Row k.instruction) ≡ split_by g (corners_of j g) (Row k.instruction)
+  split_agrees : (k : Continues j g) → split_by g (view_of j g) (Some k.instruction) ≡ split_by g (corners_of j g) (Some k.instruction)
   unfolding split_by needs
   split_agrees k = rw (pieces_agree j g good k.instruction (followed j g good k).settled)
 

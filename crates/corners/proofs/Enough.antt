@@ -11,7 +11,7 @@ use native.Mathlib.Omega.{arith}
 use native.Mathlib.Decide.{dec_lt}
 use Rattle.boxes.specs.Boxes.{Box, size, ◌∈◌}
 use Rattle.boxes.proofs.Choices.{size_positive}
-use Rattle.riscu.specs.declared.Decoded.TheVariants.{Row}
+use Rattle.std.specs.Prelude.{Some}
 use Rattle.listing.specs.Group.{Job, Group, view_of}
 use Rattle.listing.specs.Ending.{needs, end_of}
 use Rattle.listing.specs.Listing.{Path, later, path_of, split_by, move_by, move_from, moves, begin, enough, listing}
@@ -40,7 +40,7 @@ module _ (j : Job) (g : Group) (good : Good j g) (l : g.steps ≤ j.limit) where
   weighs = one-le-mul (size_positive g.box good.sound.proper) (omega arith)
 
   -- and more than the groups into which it splits
-  split_lighter : (k : Continues j g) → weight j (split_by g (view_of j g) (Row k.instruction)) < size g.box * (j.limit + 1 - g.steps)
+  split_lighter : (k : Continues j g) → weight j (split_by g (view_of j g) (Some k.instruction)) < size g.box * (j.limit + 1 - g.steps)
   unfolding split_by
   split_lighter k =
       let w = j.limit + 1 - (g.steps + 1) in

@@ -20,8 +20,7 @@ use Rattle.boxes.proofs.OneInput.{one_input_convex}
 use Rattle.boxes.proofs.Partition.{Partition, pieces_partition}
 use Rattle.riscu.specs.Machine.{bad_pc, fetch}
 use Rattle.riscu.specs.declared.Instruction.{Instruction}
-use Rattle.riscu.specs.declared.Decoded.{Decoded}
-use Rattle.riscu.specs.declared.Decoded.TheVariants.{Row, NoRow}
+use Rattle.std.specs.Prelude.{Option as Maybe, Some, None}
 use Rattle.listing.specs.Group.{Job, Group, after, class_of, View, view_of}
 use Rattle.listing.specs.Ending.{Point, first, points, needs, end_at, end_by, end_of}
 use Rattle.listing.specs.Listing.{Path, Progress, progress, whole, later, path_of, split_by, move_by, move_from, moves, begin}
@@ -37,7 +36,7 @@ use Rattle.corners.specs.Working.Good.{Sound, Good, input_of}
 pub record Continues (j : Job) (g : Group) : Type 0 where
   pub goes_on : end_of j g ≡ none
   pub instruction : Instruction
-  pub fetched : fetch j.code (view_of j g).pc ≡ Row instruction
+  pub fetched : fetch j.code (view_of j g).pc ≡ Some instruction
   pub below_limit : ¬ (g.steps ≡ j.limit)
   pub no_point : first (points (view_of j g) instruction) ≡ none
   pub entries_fit : needs g (view_of j g) instruction ≤ j.entries - g.used
@@ -58,9 +57,9 @@ continues j g e =
     let (p, d) = cond_none _ (eqb g.steps j.limit) _ e in
     go (fetch j.code pc) refl (eqb-false _ _ p) (cond_none _ (bad_pc j.code pc) _ d).1
   where
-    go : (d : Decoded) → fetch j.code (view_of j g).pc ≡ d → ¬ (g.steps ≡ j.limit) → end_at j g (view_of j g) d ≡ none → Continues j g
-    go NoRow f l e = let z : ◌≡◌ {A = ℕ} 0 1 = cc in absurd (omega arith)
-    go (Row i) f l d =
+    go : (d : Maybe Instruction) → fetch j.code (view_of j g).pc ≡ d → ¬ (g.steps ≡ j.limit) → end_at j g (view_of j g) d ≡ none → Continues j g
+    go None f l e = let z : ◌≡◌ {A = ℕ} 0 1 = cc in absurd (omega arith)
+    go (Some i) f l d =
         record {
           goes_on = e;
           instruction = i;
@@ -70,7 +69,7 @@ continues j g e =
           entries_fit = ltb-false _ _ (last_none (points (view_of j g) i) _ d);
         }
 
-pub split_mem : {h : Group} (g : Group) (v : View) (i : Instruction) → h ∈ split_by g v (Row i)
+pub split_mem : {h : Group} (g : Group) (v : View) (i : Instruction) → h ∈ split_by g v (Some i)
     → (q : Box) × (q ∈ v.pieces_of i) × (later g (needs g v i) q ≡ h)
 unfolding split_by
 split_mem g v i m = Memᴰ.of_map (later g (needs g v i)) (v.pieces_of i) m
@@ -114,7 +113,7 @@ module _ (j : Job) (g : Group) (good : Good j g) (k : Continues j g) where
       pieces_partition g.box good.sound.proper (one_input_convex g.box (class_one j g good k.instruction followed.settled))
 
   -- a piece, one step later, is good
-  split_good : (h : Group) → h ∈ split_by g (view_of j g) (Row k.instruction) → Good j h
+  split_good : (h : Group) → h ∈ split_by g (view_of j g) (Some k.instruction) → Good j h
   split_good h m =
       let (q, r, e) = split_mem g (view_of j g) k.instruction m in
       subst (Good j) e
@@ -126,7 +125,7 @@ module _ (j : Job) (sound : Sound j j.box) (P : List Path → List Group → Typ
     (ends : (ps : List Path) (g : Group) (gs : List Group) (e : End) → Good j g → end_of j g ≡ some e → P ps (g ∷ gs)
     → P (ps ++ (path_of g (view_of j g) e ∷ [])) gs)
     (splits : (ps : List Path) (g : Group) (gs : List Group) (good : Good j g) (k : Continues j g) → P ps (g ∷ gs)
-    → P ps (split_by g (view_of j g) (Row k.instruction) ++ gs)) where
+    → P ps (split_by g (view_of j g) (Some k.instruction) ++ gs)) where
   abbrev Holds : Progress → Type 0
   Holds s = P s.ended s.waiting × ((g : Group) → g ∈ s.waiting → Good j g)
 
@@ -160,7 +159,7 @@ waiting_good j s n = (moves_hold j s (λ ps gs. Unit {0}) (λ ps g gs e good d h
 module _ (j : Job) (sound : Sound j j.box) (P : Path → Type 0) (Q : Group → Type 0)
     (ends : (g : Group) (e : End) → Good j g → end_of j g ≡ some e → Q g → P (path_of g (view_of j g) e))
     (splits : (g : Group) (good : Good j g) (k : Continues j g) → Q g
-    → (h : Group) → h ∈ split_by g (view_of j g) (Row k.instruction) → Q h) where
+    → (h : Group) → h ∈ split_by g (view_of j g) (Some k.instruction) → Q h) where
   pub moves_each : Q (whole j) → (n : ℕ)
       → ((p : Path) → p ∈ (moves view_of j n).ended → P p) × ((g : Group) → g ∈ (moves view_of j n).waiting → Q g)
   moves_each q n =

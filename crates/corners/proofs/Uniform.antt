@@ -22,7 +22,7 @@ use Rattle.riscu.specs.declared.Operation.{Operation}
 use Rattle.riscu.specs.declared.Condition.TheVariants.{Equal}
 use Rattle.riscu.specs.declared.Instruction.{Instruction}
 use Rattle.riscu.specs.declared.Instruction.TheVariants.{Lui, Immediate, Register, Ld, Sd, Branch, Jal, Jalr, Ecall}
-use Rattle.riscu.specs.declared.Decoded.TheVariants.{Row}
+use Rattle.std.specs.Prelude.{Some}
 use Rattle.riscu.proofs.Whole.{widen_word, start_whole, run_whole}
 use Rattle.listing.specs.Group.{Job, after, sort_of, comparison, sorting_of, operand, class_by, class_of}
 use Rattle.listing.specs.declared.Operand.{Operand}
@@ -229,7 +229,7 @@ module _ (j : Job) (b : Box) (sound : Sound j b) where
   whole_after n c h =
       run_whole j.code c (λ k. omega (arith, inside_at b c h k, sound.inputs k)) (start_whole j.memory sound.memory) n
 
-  pub after_suc : (n : ℕ) {i : Instruction} (c : Choice) → fetch j.code (after j n c).pc ≡ Row i
+  pub after_suc : (n : ℕ) {i : Instruction} (c : Choice) → fetch j.code (after j n c).pc ≡ Some i
       → step c i (after j n c) ≡ after j (suc n) c
   unfolding after run step_decoded
   after_suc n c e = rw e

@@ -9,6 +9,7 @@ use native.Mathlib.Nat.{zero-add}
 use native.Mathlib.Omega.{arith}
 use borrow.Author.Tests.{ltb-true, ltb-false, lt-leb, le-leb}
 use lib.Dec.{ltb}
+use Rattle.std.specs.Prelude.{Ok, Err}
 use lib.ListN.{length}
 use Rattle.boxes.specs.Boxes.{size}
 use Rattle.boxes.proofs.Places.{place_mem, place_below, place_exists}
@@ -25,7 +26,7 @@ use Rattle.blocks.proofs.Said.{said_told}
 use Rattle.calls.specs.Call.{Call, inputs_of, Below, Typed, written, more, is_page, refusal_of, job_of, Reply, reply_by, reply_to}
 use Rattle.calls.specs.Complete.{IsPath}
 use Rattle.calls.specs.Reported.{Reported}
-use Rattle.calls.specs.declared.Answer.TheVariants.{Refused, Page}
+use Rattle.calls.specs.declared.Page.{Page}
 use Rattle.calls.specs.declared.Refusal.{Refusal}
 use Rattle.corners.specs.Working.Good.{Sound}
 use Rattle.demands.proofs.Accepted.{accepted_sound, job_inputs, inputs_counted, path_inputs}
@@ -69,30 +70,30 @@ module _ (memory : List ℕ) (c : Call) (bounded : Below (2 ^ 64) memory) (typed
   from_zero : (k : ℕ) → c.first + k ≡ k
   from_zero k = omega (arith, start)
 
-  pub not_refused : {r : Refusal} {bytes : List ℕ} → reply (Refused r) bytes ≡ reply_to memory table_words c → ⊥
+  pub not_refused : {r : Refusal} {bytes : List ℕ} → reply (Err r) bytes ≡ reply_to memory table_words c → ⊥
   unfolding reply_to reply_by is_page
   not_refused e = false≢true (ap (λ (y : Reply). is_page y.answer) (rw d at e))
 
-  module _ {count : ℕ} {further : Bool} {bytes : List ℕ} (e : reply (Page count further) bytes ≡ reply_to memory table_words c) where
-    page : Reported j c (reply (Page count further) bytes)
+  module _ {answer : Page} {bytes : List ℕ} (e : reply (Ok answer) bytes ≡ reply_to memory table_words c) where
+    page : Reported j c (reply (Ok answer) bytes)
     page = rw e (reported memory table_words c bounded typed d)
 
-    count_is : count ≡ min most_paths (length (listing j))
+    count_is : answer.count ≡ min most_paths (length (listing j))
     unfolding written
     count_is = omega (arith, page.count, room, start)
 
-    further_is : further ≡ ltb count (length (listing j))
+    further_is : answer.more ≡ ltb answer.count (length (listing j))
     unfolding written more
-    further_is = page.further ∙ ap (λ (k : ℕ). ltb k (length (listing j))) (from_zero count)
+    further_is = page.further ∙ ap (λ (k : ℕ). ltb k (length (listing j))) (from_zero answer.count)
 
-    pub too_many : further ≡ true → paths_fit j ≡ false
+    pub too_many : answer.more ≡ true → paths_fit j ≡ false
     too_many f =
-        let l = ltb-true count (length (listing j)) (sym further_is ∙ f) in
+        let l = ltb-true answer.count (length (listing j)) (sym further_is ∙ f) in
         lt-leb (length (listing j)) most_paths (omega (arith, count_is))
 
-    module _ (f : further ≡ false) where
-      all : count ≡ length (listing j)
-      all = let l = ltb-false count (length (listing j)) (sym further_is ∙ f) in omega (arith, count_is)
+    module _ (f : answer.more ≡ false) where
+      all : answer.count ≡ length (listing j)
+      all = let l = ltb-false answer.count (length (listing j)) (sym further_is ∙ f) in omega (arith, count_is)
 
       pub few_enough : paths_fit j ≡ true
       few_enough = le-leb (length (listing j)) most_paths (omega (arith, all, count_is))
@@ -122,11 +123,11 @@ module _ (memory : List ℕ) (c : Call) (bounded : Below (2 ^ 64) memory) (typed
         box_is : (said_at n bytes i).box ≡ p.box
         box_is = ap (λ (s : Said). s.box) said
 
-      pub parts_are : parts_in n bytes count ≡ map part_of (listing j)
+      pub parts_are : parts_in n bytes answer.count ≡ map part_of (listing j)
       unfolding parts_in
       parts_are = rw all (map_places (λ (k : ℕ). part_in (said_at n bytes k)) part_of (listing j) 0 (λ i p z. rw zero-add (part_is i p z)))
 
-      pub adds : size j.box < 2 ^ 64 → Adds bytes n count (size j.box)
+      pub adds : size j.box < 2 ^ 64 → Adds bytes n answer.count (size j.box)
       adds fits = record {
         inputs = omega (arith, job_inputs memory table_words c d, inputs_counted memory table_words c d);
         records = omega (arith, page.size, room, count_is);

@@ -5,18 +5,19 @@ use mathlib.Core.Bool.{Bool, true, false}
 use mathlib.Core.List.{List, [], ◌∷◌, ◌++◌, map}
 use Prim.Native.Nat.{ℕ, zero, suc, ◌+◌, ◌-◌, ◌<◌, ◌≤◌, ◌^◌}
 use native.Mathlib.Omega.{arith}
-use lib.ListN.{length, take, drop, replicate, length-map}
+use lib.ListN.{length, take, drop, replicate, length-map, length-append, length-drop, length-replicate}
 use lib.Seq.{take-append_seam, drop-append-add, drop-drop}
 use Rattle.boxes.specs.Boxes.{keep}
 use Rattle.boxes.proofs.Lists.{by_test}
 use Rattle.counting.specs.Counting.{Result, is_fixed, exits_with, exit_values, most_paths, in_places}
 use Rattle.counting.specs.Promised.{add_all}
-use Rattle.counting.specs.Working.Adding.{Part, sum_on, sum_all, results_of, Entry, entry, joined, sum_of, carried, laid, Room, AddedTo}
+use Rattle.counting.specs.Working.Adding.{Part, sum_on, sum_all, results_of, entry, sum_of, carried, laid, Room, Added}
+use Rattle.counting.specs.declared.adding.Entry.{Entry}
 use Rattle.counting.proofs.Sliding.{nothing}
 use Rattle.counting.proofs.Tallies.{value_of, count_of, tally, tally_rises, tally_sum, insert_length, carries, entry_of, fixed_entries}
 use Rattle.counting.proofs.Tallies.{tally_few, tally_values, tally_counts, entries_sum}
 
--- two lists side by side, and a list over the front of another
+-- a list over the front of another
 
 -- a longer list over a shorter one
 laid_laid : (es fs old : List Entry) → length es ≤ length fs → laid fs (laid es old) ≡ laid fs old
@@ -28,24 +29,6 @@ laid_laid es fs old h =
     ∙ drop-append-add es (drop (length es) old) m
     ∙ drop-drop m (length es) old
     ∙ ap (λ (k : ℕ). drop k old) (sym n))
-
-values_joined : (vs cs : List ℕ) → length cs ≡ length vs → map value_of (joined vs cs) ≡ vs
-unfolding joined
-values_joined [] cs e = refl
-values_joined (v ∷ vs) [] e = absurd (omega arith)
-values_joined (v ∷ vs) (n ∷ cs) e = ap (λ (l : List ℕ). v ∷ l) (values_joined vs cs (omega arith))
-
-counts_joined : (vs cs : List ℕ) → length cs ≡ length vs → map count_of (joined vs cs) ≡ cs
-unfolding joined
-counts_joined [] [] e = refl
-counts_joined [] (n ∷ cs) e = absurd (omega arith)
-counts_joined (v ∷ vs) [] e = absurd (omega arith)
-counts_joined (v ∷ vs) (n ∷ cs) e = ap (λ (l : List ℕ). n ∷ l) (counts_joined vs cs (omega arith))
-
-joined_zeros : (n : ℕ) → joined (replicate n 0) (replicate n 0) ≡ replicate n nothing
-unfolding joined
-joined_zeros zero = refl
-joined_zeros (suc n) = ap (λ (l : List Entry). nothing ∷ l) (joined_zeros n)
 
 map_zeros : (f : Entry → ℕ) (n : ℕ) → map f (replicate n nothing) ≡ replicate n (f nothing)
 map_zeros f zero = refl
@@ -80,15 +63,13 @@ fixed_sum ps =
 
 -- the loop's state
 
-pub record Gathered (ps : List Part) (vs cs : List ℕ) (used : ℕ) : Type 0 where
-  pub wide : length vs ≡ most_paths
-  pub even : length cs ≡ most_paths
-  pub lists : joined vs cs ≡ laid (tally (fixed_entries ps)) (replicate most_paths nothing)
+pub record Gathered (ps : List Part) (places : List Entry) (used : ℕ) : Type 0 where
+  pub lists : places ≡ laid (tally (fixed_entries ps)) (replicate most_paths nothing)
   pub count : used ≡ length (tally (fixed_entries ps))
 
-pub none_gathered : Gathered [] (replicate most_paths 0) (replicate most_paths 0) 0
+pub none_gathered : Gathered [] (replicate most_paths nothing) 0
 unfolding keep tally
-none_gathered = record { wide = refl; even = refl; lists = joined_zeros most_paths; count = refl }
+none_gathered = record { lists = refl; count = refl }
 
 fixed_other : (p : Part) (ps : List Part) → is_fixed p.result ≡ false → fixed_entries (p ∷ ps) ≡ fixed_entries ps
 unfolding keep
@@ -98,66 +79,75 @@ fixed_more : (p : Part) (ps : List Part) → is_fixed p.result ≡ true → fixe
 unfolding keep
 fixed_more p ps e = rw e
 
-module _ {ps : List Part} {vs cs : List ℕ} {used : ℕ} where
-  pub other_gathered : (p : Part) → is_fixed p.result ≡ false → Gathered ps vs cs used → Gathered (p ∷ ps) vs cs used
+module _ {ps : List Part} {places : List Entry} {used : ℕ} where
+  pub other_gathered : (p : Part) → is_fixed p.result ≡ false → Gathered ps places used → Gathered (p ∷ ps) places used
   other_gathered p f a =
       let e = sym (fixed_other p ps f) in
       record {
-        wide = a.wide;
-        even = a.even;
         lists = a.lists ∙ ap (λ (es : List Entry). laid (tally es) (replicate most_paths nothing)) e;
         count = a.count ∙ ap (λ (es : List Entry). length (tally es)) e;
       }
 
-  -- the used part of the arrays
-  entries : Gathered ps vs cs used → take used (joined vs cs) ≡ tally (fixed_entries ps)
+  -- the used part of the places
+  entries : Gathered ps places used → take used places ≡ tally (fixed_entries ps)
   entries a =
       let es = tally (fixed_entries ps) in
       let old = replicate most_paths nothing in
       ap (take used) a.lists ∙ ap (λ (k : ℕ). take k (laid es old)) a.count ∙ take-append_seam es (drop (length es) old)
 
-  pub gathered_room : Gathered ps vs cs used → (p : Part) → suc (length ps) ≤ most_paths → p.choices + sum_all ps < 2 ^ 64
-      → Room vs cs used (entry p.result.low p.choices)
+  pub gathered_wide : Gathered ps places used → length ps ≤ most_paths → length places ≡ most_paths
+  gathered_wide a s =
+      let es = tally (fixed_entries ps) in
+      let old = replicate most_paths nothing in
+      omega (
+        arith,
+        ap (λ (l : List Entry). length l) a.lists,
+        length-append es (drop (length es) old),
+        length-drop (length es) old,
+        length-replicate {A = Entry} most_paths nothing,
+        tally_few ps,
+      )
+
+  pub gathered_room : Gathered ps places used → (p : Part) → suc (length ps) ≤ most_paths → p.choices + sum_all ps < 2 ^ 64
+      → Room places used (entry p.result.low p.choices)
   gathered_room a p s f =
       let few = tally_few ps in
+      let wide = gathered_wide a (omega arith) in
       let sum = ap sum_of (entries a) ∙ tally_sum (fixed_entries ps) ∙ entries_sum ps in
       let most = sum_most is_fixed ps in
-      record { place = omega arith; even = omega arith; fits = omega arith }
+      record { free = omega arith; fits = omega arith }
 
-  pub more_gathered : {vs' cs' : List ℕ} {r : ℕ} → Gathered ps vs cs used → (p : Part) → is_fixed p.result ≡ true
-      → length vs' ≡ length vs → length cs' ≡ length cs → AddedTo vs cs vs' cs' used r (entry p.result.low p.choices)
-      → Gathered (p ∷ ps) vs' cs' r
+  pub more_gathered : {after : List Entry} {r : ℕ} → Gathered ps places used → (p : Part) → is_fixed p.result ≡ true
+      → Added places used (entry p.result.low p.choices) after r → Gathered (p ∷ ps) after r
   unfolding tally
-  more_gathered a p f v c s =
+  more_gathered a p f s =
       let q = entry_of p in
       let es = fixed_entries ps in
       let now = tally (fixed_entries (p ∷ ps)) in
       let old = replicate most_paths nothing in
       let t = ap tally (fixed_more p ps f) in
-      let e : carried q (take used (joined vs cs)) ≡ now = ap (carried q) (entries a) ∙ carries q (tally es) (tally_rises es) ∙ sym t in
+      let e : carried q (take used places) ≡ now = ap (carried q) (entries a) ∙ carries q (tally es) (tally_rises es) ∙ sym t in
       let n = insert_length q (tally es) in
       let m = ap length t in
       record {
-        wide = v ∙ a.wide;
-        even = c ∙ a.even;
         lists =
             s.lists
-            ∙ ap (λ (l : List Entry). laid l (joined vs cs)) e
+            ∙ ap (λ (l : List Entry). laid l places) e
             ∙ ap (λ (l : List Entry). laid now l) a.lists
             ∙ laid_laid (tally es) now old (omega arith);
         count = s.count ∙ ap length e;
       }
 
-  places_hold : (f : Entry → ℕ) → Gathered ps vs cs used → length ps ≤ most_paths
-      → let ns = map f (tally (fixed_entries ps)) in map f (joined vs cs) ≡ ns ++ replicate (most_paths - length ns) (f nothing)
+  places_hold : (f : Entry → ℕ) → Gathered ps places used → length ps ≤ most_paths
+      → let ns = map f (tally (fixed_entries ps)) in map f places ≡ ns ++ replicate (most_paths - length ns) (f nothing)
   places_hold f a s = ap (map f) a.lists ∙ map_laid f (tally (fixed_entries ps)) most_paths (omega (arith, tally_few ps))
 
-  pub gathered_values : Gathered ps vs cs used → length ps ≤ most_paths → vs ≡ in_places (exit_values (results_of ps))
-  gathered_values a s = sym (values_joined vs cs (a.even ∙ sym a.wide)) ∙ places_hold value_of a s ∙ ap in_places (tally_values ps)
+  pub gathered_values : Gathered ps places used → length ps ≤ most_paths → map value_of places ≡ in_places (exit_values (results_of ps))
+  gathered_values a s = places_hold value_of a s ∙ ap in_places (tally_values ps)
 
-  pub gathered_choices : Gathered ps vs cs used → length ps ≤ most_paths
-      → cs ≡ in_places (map (λ (x : ℕ). sum_on (exits_with x) ps) (exit_values (results_of ps)))
-  gathered_choices a s = sym (counts_joined vs cs (a.even ∙ sym a.wide)) ∙ places_hold count_of a s ∙ ap in_places (tally_counts ps)
+  pub gathered_choices : Gathered ps places used → length ps ≤ most_paths
+      → map count_of places ≡ in_places (map (λ (x : ℕ). sum_on (exits_with x) ps) (exit_values (results_of ps)))
+  gathered_choices a s = places_hold count_of a s ∙ ap in_places (tally_counts ps)
 
-  pub gathered_used : Gathered ps vs cs used → used ≡ length (exit_values (results_of ps))
+  pub gathered_used : Gathered ps places used → used ≡ length (exit_values (results_of ps))
   gathered_used a = a.count ∙ sym (length-map (tally (fixed_entries ps)) value_of) ∙ ap length (tally_values ps)

@@ -16,7 +16,8 @@ use borrow.Author.Tests.{ltb-true, ltb-false, eqb-true, eqb-false, lt-ltb, eq-eq
 use Rattle.boxes.specs.Boxes.{keep, ◌∈◌}
 use Rattle.boxes.proofs.Lists.{by_test, map_cong, keep_map, keep_length}
 use Rattle.counting.specs.Counting.{Result, is_fixed, exits_with, inserted, rising, exit_values}
-use Rattle.counting.specs.Working.Adding.{Part, sum_on, results_of, Entry, entry, sum_of, carried}
+use Rattle.counting.specs.Working.Adding.{Part, sum_on, results_of, entry, sum_of, carried}
+use Rattle.counting.specs.declared.adding.Entry.{Entry}
 
 -- numbers in rising order, each once
 

@@ -1,43 +1,50 @@
 // The paths of a report added up, from the last to the first.
 ghost use Rattle.std.specs.Prelude.{◌≡◌};
-ghost use Rattle.counting.specs.Working.Adding.{entry, Room, Added, Adds, parts_in, added_up};
+ghost use Rattle.counting.specs.Working.Adding.{Room, Added, Adds, parts_in, added_up};
 
 use crate::sizes::path_size;
 use crate::{Counted, KIND_PLACES, MOST_PATHS};
 use blocks::layout::{EXIT_HIGH, EXIT_LOW, KIND};
 use blocks::report::record_word;
 
-// The kind of exit.
+// The kind of exit, as a record's word says it.
 const EXIT: usize = 1;
 
-// Adds choices to those of a value, which stand in the first `used` places and rise; how many are used then.
-fn add_value(values: &mut [u64], choices: &mut [u64], used: usize, value: u64, count: u64) -> usize
-    requires { Room values.old choices.old used (entry value count) }
-    ensures { Added values choices used result (entry value count) }
-{
-    let mut v = value;
-    let mut n = count;
-    let mut i: usize = 0;
-    while i < used {
-        let w = values[i];
-        let m = choices[i];
-        if v == w {
-            choices[i] = n + m;
-            return used;
+// A value, and how many choices lead to it.
+#[derive(Clone, Copy)]
+struct Entry {
+    value: u64,
+    count: u64,
+}
+
+// Entries in the first `used` places, their values rising. A fixed array, as there is no heap.
+#[derive(Drop)]
+struct Entries {
+    places: [Entry; MOST_PATHS],
+    used: usize,
+}
+
+impl Entries {
+    // Adds to the entry of that value, or puts a new one to its place.
+    fn add(&mut self, entry: Entry)
+        requires { Room self.old.places self.old.used entry }
+        ensures { Added self.old.places self.old.used entry self.new.places self.new.used }
+    {
+        let mut carried = entry;
+        for i in 0..self.used {
+            let here = self.places[i];
+            if carried.value == here.value {
+                self.places[i].count += carried.count;
+                return;
+            }
+            if carried.value < here.value {
+                self.places[i] = carried;
+                carried = here;
+            }
         }
-        if v < w {
-            values[i] = v;
-            choices[i] = n;
-            v = w;
-            n = m;
-            i += 1;
-        } else {
-            i += 1;
-        }
+        self.places[self.used] = carried;
+        self.used += 1;
     }
-    values[used] = v;
-    choices[used] = n;
-    used + 1
 }
 
 // The choices of the first `count` records of a report, by what they lead to.
@@ -45,14 +52,13 @@ pub(crate) fn add_up(report: &[u8], inputs: usize, count: usize, total: u64) -> 
     requires { Adds report.now inputs count total }
     ensures { result ≡ added_up (parts_in inputs report.now count) total }
 {
-    let mut values = [0u64; MOST_PATHS];
-    let mut choices = [0u64; MOST_PATHS];
+    let mut exits = Entries {
+        places: [Entry { value: 0, count: 0 }; MOST_PATHS],
+        used: 0,
+    };
     let mut kinds = [0u64; KIND_PLACES];
-    let mut used: usize = 0;
     let mut varying: u64 = 0;
-    let mut k = count;
-    while 0 < k {
-        k -= 1;
+    for k in (0..count).rev() {
         let size = path_size(report, inputs, k);
         let kind = record_word(report, inputs, k, KIND) as usize;
         let low = record_word(report, inputs, k, EXIT_LOW);
@@ -60,16 +66,19 @@ pub(crate) fn add_up(report: &[u8], inputs: usize, count: usize, total: u64) -> 
         if kind != EXIT {
             kinds[kind] += size;
         } else if low == high {
-            used = add_value(&mut values, &mut choices, used, low, size);
+            exits.add(Entry {
+                value: low,
+                count: size,
+            });
         } else {
             varying += size;
         }
     }
     Counted {
         refused: 0,
-        used: used as u64,
-        values,
-        choices,
+        used: exits.used as u64,
+        values: exits.places.map(|e| e.value),
+        choices: exits.places.map(|e| e.count),
         varying,
         kinds,
         total,

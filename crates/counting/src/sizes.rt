@@ -9,31 +9,19 @@ ghost use Rattle.calls.specs.Call.{box_of};
 ghost use Rattle.counting.specs.Working.Adding.{sized, FitsWord};
 
 use blocks::report::{input_high, input_low};
-use words::MAX;
 
-// A size that is a word, or one that is too large for a word.
-#[derive(Clone, Copy)]
-pub(crate) enum BoxSize {
-    Fits(u64),
-    Over,
-}
-
-// The size of the box of some intervals, low, high, low, high.
-pub(crate) fn box_size(intervals: &[u64]) -> BoxSize
+// The size of the box of some intervals, low, high, low, high, if it is a word.
+pub(crate) fn box_size(intervals: &[u64]) -> Option<u64>
     requires { Proper (box_of intervals.now) }
     ensures { result ≡ sized (size (box_of intervals.now)) }
 {
     let mut n: u64 = 1;
-    let mut i: usize = 0;
-    while i < intervals.len() / 2 {
-        let more = intervals[2 * i + 1] - intervals[2 * i];
-        if MAX / n <= more {
-            return BoxSize::Over;
-        }
-        n = n * (more + 1);
-        i += 1;
+    for pair in intervals.chunks_exact(2) {
+        let more = pair[1] - pair[0];
+        let width = more.checked_add(1)?;
+        n = n.checked_mul(width)?;
     }
-    BoxSize::Fits(n)
+    Some(n)
 }
 
 // The size of the box of record k.
@@ -42,12 +30,10 @@ pub(crate) fn path_size(report: &[u8], inputs: usize, k: usize) -> u64
     ensures { result ≡ size (said_at inputs report.now k).box }
 {
     let mut n: u64 = 1;
-    let mut i: usize = 0;
-    while i < inputs {
+    for i in 0..inputs {
         let low = input_low(report, inputs, k, i);
         let high = input_high(report, inputs, k, i);
-        n = n * (high - low + 1);
-        i += 1;
+        n *= high - low + 1;
     }
     n
 }

@@ -1,8 +1,8 @@
-// The table of forks, an entry each, the latest fork last.
-ghost use Rattle.std.specs.Prelude.{◌≡◌, ◌+◌, ◌<◌, length, replicate};
+// The table of forks, an entry each, the latest fork last. C lends it as words, eight an entry; how many forks it holds stands beside it.
+ghost use Rattle.std.specs.Prelude.{◌≡◌, length, replicate};
 ghost use Rattle.forks.specs.Working.Stack.{with_rest, spend};
 ghost use Rattle.forks.specs.Working.Table.{fork_in, HasEntry, OnTop};
-ghost use Rattle.cuts.specs.Working.Entries.{fork_of, fork_held};
+ghost use Rattle.cuts.specs.Working.Entries.{fork_held};
 
 use calls::questions::ENTRY_WORDS;
 
@@ -19,7 +19,7 @@ const USED: usize = 5;
 
 const SPENT: usize = 6;
 
-// A fork as the table holds it.
+// A fork as the table holds it. Of a spent one the rest stays in the table, and so in the definitions: it is no Option.
 #[derive(Clone, Copy)]
 pub struct Entry {
     pub input: usize,
@@ -32,44 +32,18 @@ pub struct Entry {
 }
 
 // One more fork on n.
-fn push(
-    table: &mut [u64],
-    n: usize,
-    input: usize,
-    low: u64,
-    high: u64,
-    rest: u64,
-    steps: usize,
-    used: usize,
-)
+pub fn push(table: &mut [u64], n: usize, fork: Entry)
     requires { HasEntry table.old n }
-    ensures { OnTop (fork_of input low high rest steps used) table.old n table.new }
+    ensures { OnTop (fork_held fork) table.old n table.new }
 {
     let k = ENTRY_WORDS * n;
-    table[k] = input as u64;
-    table[k + LOW] = low;
-    table[k + HIGH] = high;
-    table[k + REST] = rest;
-    table[k + STEPS] = steps as u64;
-    table[k + USED] = used as u64;
-    table[k + SPENT] = 0;
-}
-
-// The fork at an edge: its rest begins above it.
-pub fn note(
-    table: &mut [u64],
-    n: usize,
-    input: usize,
-    low: u64,
-    high: u64,
-    edge: u64,
-    steps: usize,
-    used: usize,
-)
-    requires { HasEntry table.old n × (edge < high) }
-    ensures { OnTop (fork_of input low high (edge + 1) steps used) table.old n table.new }
-{
-    push(table, n, input, low, high, edge + 1, steps, used);
+    table[k] = fork.input as u64;
+    table[k + LOW] = fork.low;
+    table[k + HIGH] = fork.high;
+    table[k + REST] = fork.rest;
+    table[k + STEPS] = fork.steps as u64;
+    table[k + USED] = fork.used as u64;
+    table[k + SPENT] = u64::from(fork.spent);
 }
 
 // The entry of fork n.
@@ -90,20 +64,11 @@ pub fn top(table: &[u64], n: usize) -> Entry
 }
 
 // Another rest of the latest fork.
-fn shorten(table: &mut [u64], n: usize, rest: u64)
+pub fn shorten(table: &mut [u64], n: usize, rest: u64)
     requires { HasEntry table.old n }
     ensures { OnTop (with_rest (fork_in table.old n) rest) table.old n table.new }
 {
-    let k = ENTRY_WORDS * n + REST;
-    table[k] = rest;
-}
-
-// Its rest begins above an edge.
-pub fn rise(table: &mut [u64], n: usize, edge: u64, high: u64)
-    requires { HasEntry table.old n × (edge < high) }
-    ensures { OnTop (with_rest (fork_in table.old n) (edge + 1)) table.old n table.new }
-{
-    shorten(table, n, edge + 1);
+    table[ENTRY_WORDS * n + REST] = rest;
 }
 
 // Nothing left of the latest fork.
@@ -111,17 +76,12 @@ pub fn spend(table: &mut [u64], n: usize)
     requires { HasEntry table.old n }
     ensures { OnTop (spend (fork_in table.old n)) table.old n table.new }
 {
-    let k = ENTRY_WORDS * n + SPENT;
-    table[k] = 1;
+    table[ENTRY_WORDS * n + SPENT] = 1;
 }
 
 // The whole table is zero.
 pub fn clear(table: &mut [u64])
     ensures { table.new ≡ replicate (length table.old) 0 }
 {
-    let mut k: usize = 0;
-    while k < table.len() {
-        table[k] = 0;
-        k += 1;
-    }
+    table.fill(0);
 }

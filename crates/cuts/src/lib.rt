@@ -7,3 +7,17 @@ pub mod entries;
 pub mod forking;
 pub mod hints;
 mod probes;
+
+use riscu::Instruction;
+use riscu::plain::Memory;
+
+// What probes ask: whether an instruction, so many steps of the code from the start, has this class, while one input goes up.
+#[derive(Clone, Copy)]
+pub struct Probing<'a> {
+    pub code: &'a [u32],
+    pub memory: &'a Memory,
+    pub steps: usize,
+    pub instruction: Instruction,
+    pub input: usize,
+    pub class: u64,
+}

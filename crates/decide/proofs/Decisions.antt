@@ -14,8 +14,7 @@ use Rattle.riscu.specs.declared.Operation.{Operation}
 use Rattle.riscu.specs.declared.Operation.TheVariants.{Add, Sub, Mul, Divu, Remu, Sltu}
 use Rattle.riscu.specs.declared.Instruction.{Instruction}
 use Rattle.riscu.specs.declared.Instruction.TheVariants.{Lui, Immediate, Register, Ld, Sd, Branch, Jal, Jalr, Ecall}
-use Rattle.riscu.specs.declared.Decoded.{Decoded}
-use Rattle.riscu.specs.declared.Decoded.TheVariants.{Row, NoRow}
+use Rattle.std.specs.Prelude.{Option, Some, None}
 use Rattle.listing.specs.Group.{Job, Group, sorting_of, class_of}
 use Rattle.listing.specs.Ending.{Point, ◌⇒◌, first, operand_open, operation_points, operand_points, address_points, points}
 use Rattle.listing.specs.Ending.{writes, needs, end_at, end_by}
@@ -115,10 +114,10 @@ module _ (j : Job) (g : Group) where
       (λ t. rw t)
       (λ t. rw t (by_test (same_class i low high) (λ s. rw s) (λ s. rw s))))
 
-  row_ends : (d : Decoded) → end_in (row_decision (j.entries - g.used) left low high d) ≡ end_at j g (corners_of j g) d
+  row_ends : (d : Option Instruction) → end_in (row_decision (j.entries - g.used) left low high d) ≡ end_at j g (corners_of j g) d
   unfolding end_in row_decision end_at
-  row_ends NoRow = refl
-  row_ends (Row i) =
+  row_ends None = refl
+  row_ends (Some i) =
       let q : Point = ltb (j.entries - g.used) (needs g (corners_of j g) i) ⇒ TraceFull in
       added (onward (j.entries - g.used) left (same_class i low high) i) q (points (corner_view low high) i) (onward_ends i)
       ∙ ap (λ (l : List Point). first (l ++ (q ∷ []))) (points_by_registers i)

@@ -1,9 +1,7 @@
 -- The laws of a decision at the corners.
---     Into        the class of an operation into a register
 --     Verdicts    points tried one by one
 --     Decisions   the decision is the ending order over the corners' view
 --     Says        what each decision says of the group that it is made for
-pub mod Into
 pub mod Verdicts
 pub mod Decisions
 pub mod Says

@@ -13,16 +13,14 @@ use Rattle.boxes.proofs.Lists.{by_test}
 use Rattle.riscu.specs.Machine.{bad_pc, fetch}
 use Rattle.riscu.specs.declared.At.{At}
 use Rattle.riscu.specs.declared.Instruction.{Instruction}
-use Rattle.riscu.specs.declared.Decoded.{Decoded}
-use Rattle.riscu.specs.declared.Decoded.TheVariants.{Row, NoRow}
+use Rattle.std.specs.Prelude.{Option, Some, None}
 use Rattle.listing.specs.Group.{Job, Group, class_of}
 use Rattle.listing.specs.Ending.{points, writes, end_by}
 use Rattle.listing.specs.declared.End.{End}
 use Rattle.decide.specs.Working.Corner.{machine, corner_view, verdict, same_class, onward, unless_ends, row_decision, decision, end_in}
 use Rattle.decide.specs.declared.Limits.{Limits}
 use Rattle.decide.specs.declared.Used.{Used}
-use Rattle.decide.specs.declared.Verdict.{Verdict}
-use Rattle.decide.specs.declared.Verdict.TheVariants.{Ends, Passes}
+use Rattle.std.specs.Prelude.{Result, Ok, Err}
 use Rattle.decide.specs.declared.Decision.{Decision}
 use Rattle.decide.specs.declared.Decision.TheVariants.{Ended, Steps, Forks}
 use Rattle.decide.proofs.Decisions.{Stands, decision_ends, class_by_registers}
@@ -32,10 +30,10 @@ module _ (code : List ℕ) (pc : ℕ) (l h : List ℕ) where
   -- the row that is at pc, and whether the class is the same at both corners
   abbrev Says : Decision → Type 0
   Says (Ended e) = Unit {0}
-  Says (Steps i) = (fetch code pc ≡ Row i) × (same_class i l h ≡ true)
-  Says (Forks i) = (fetch code pc ≡ Row i) × (same_class i l h ≡ false)
+  Says (Steps i) = (fetch code pc ≡ Some i) × (same_class i l h ≡ true)
+  Says (Forks i) = (fetch code pc ≡ Some i) × (same_class i l h ≡ false)
 
-  onward_says : (entries : ℕ) (left : Bool) (i : Instruction) → fetch code pc ≡ Row i → Says (onward entries left (same_class i l h) i)
+  onward_says : (entries : ℕ) (left : Bool) (i : Instruction) → fetch code pc ≡ Some i → Says (onward entries left (same_class i l h) i)
   unfolding onward
   onward_says entries left i f =
       by_test (ltb entries (writes left i + cond (same_class i l h) 0 1)) (λ t. rw t tt) (λ t. rw t (go (same_class i l h) refl))
@@ -44,15 +42,15 @@ module _ (code : List ℕ) (pc : ℕ) (l h : List ℕ) where
       go true s = (f, s)
       go false s = (f, s)
 
-  unless_says : (d : Decision) (v : Verdict) → Says d → Says (unless_ends d v)
+  unless_says : (d : Decision) (v : Result Unit End) → Says d → Says (unless_ends d v)
   unfolding unless_ends
-  unless_says d (Ends e) s = tt
-  unless_says d Passes s = s
+  unless_says d (Err e) s = tt
+  unless_says d (Ok x) s = s
 
-  row_says : (entries : ℕ) (left : Bool) (d : Decoded) → fetch code pc ≡ d → Says (row_decision entries left l h d)
+  row_says : (entries : ℕ) (left : Bool) (d : Option Instruction) → fetch code pc ≡ d → Says (row_decision entries left l h d)
   unfolding row_decision
-  row_says entries left NoRow f = tt
-  row_says entries left (Row i) f =
+  row_says entries left None f = tt
+  row_says entries left (Some i) f =
       unless_says (onward entries left (same_class i l h) i) (verdict (points (corner_view l h) i)) (onward_says entries left i f)
 
 decision_says : (code : List ℕ) (m : Limits) (u : Used) (a : At) (l h : List ℕ) → Says code a.pc l h (decision code m u a l h)
@@ -63,7 +61,7 @@ decision_says code m u a l h =
     (row_says code a.pc l h (m.entries - u.entries) (ltb a.reads m.inputs) (fetch code a.pc) refl))))
 
 module _ {j : Job} {g : Group} {m : Limits} {u : Used} {a : At} {l h : List ℕ} (s : Stands j g m u a l h) where
-  fetched : {i : Instruction} → fetch j.code a.pc ≡ Row i → fetch j.code (low_state j g).pc ≡ Row i
+  fetched : {i : Instruction} → fetch j.code a.pc ≡ Some i → fetch j.code (low_state j g).pc ≡ Some i
   fetched f = ap (fetch j.code) (sym s.pc) ∙ f
 
   low_class_lem : (i : Instruction) → class_of i (machine l) ≡ class_of i (low_state j g)
@@ -80,7 +78,7 @@ module _ {j : Job} {g : Group} {m : Limits} {u : Used} {a : At} {l h : List ℕ}
   says_ended d = sym (decision_ends j g m u a l h s) ∙ ap end_in d
 
   pub says_steps : {i : Instruction} → made ≡ Steps i
-      → (end_by j g (corners_of j g) ≡ none) × (fetch j.code (low_state j g).pc ≡ Row i)
+      → (end_by j g (corners_of j g) ≡ none) × (fetch j.code (low_state j g).pc ≡ Some i)
       × (class_of i (low_state j g) ≡ class_of i (high_state j g))
   unfolding end_in
   says_steps {i} d =
@@ -91,7 +89,7 @@ module _ {j : Job} {g : Group} {m : Limits} {u : Used} {a : At} {l h : List ℕ}
       )
 
   pub says_forks : {i : Instruction} → made ≡ Forks i
-      → (end_by j g (corners_of j g) ≡ none) × (fetch j.code (low_state j g).pc ≡ Row i)
+      → (end_by j g (corners_of j g) ≡ none) × (fetch j.code (low_state j g).pc ≡ Some i)
       × (class_of i (low_state j g) ≢ class_of i (high_state j g))
   unfolding end_in
   says_forks {i} d =

@@ -1,5 +1,7 @@
 // Tests on words, and the class of a machine at an instruction.
-ghost use Rattle.std.specs.Prelude.{◌≡◌, cond, ◌+◌, ◌/◌, min, max, eqb};
+#![tactic(auto, using(words::proofs::Signs::widen_held), unfolding(listing::specs::Group::sort_of, listing::specs::Group::comparison, listing::specs::Group::sorting_of, listing::specs::Group::class_by, listing::specs::Group::class_of))]
+
+ghost use Rattle.std.specs.Prelude.{◌≡◌, cond, ◌+◌, ◌/◌, eqb};
 ghost use Rattle.words.specs.Word.{size};
 ghost use Rattle.riscu.specs.declared.Instruction.TheVariants.{Immediate, Register};
 ghost use Rattle.listing.specs.declared.Operand.TheVariants.{InRegister};
@@ -7,34 +9,23 @@ ghost use Rattle.listing.specs.Group.{sort_of, comparison, branch_sorting, opera
 ghost use Rattle.listing.specs.Ending.{bad_address};
 ghost use Rattle.decide.specs.Working.Corner.{machine};
 
-use listing::{Operand, Sorting, operand_value, sorting_of};
+use listing::{Operand, Sorting, sorting_of};
 use riscu::plain::{Registers, register};
 use riscu::{Condition, Instruction, Operation};
+use std::cmp::Ordering;
 use words::widen;
 
 pub(crate) fn bad_address(a: u64) -> bool
     ensures { result ≡ bad_address a }
 {
-    (a % 8 != 0) | (4088 < a)
-}
-
-pub fn least(a: u64, b: u64) -> u64
-    ensures { result ≡ min a b }
-{
-    if a < b { a } else { b }
-}
-
-pub fn greatest(a: u64, b: u64) -> u64
-    ensures { result ≡ max a b }
-{
-    if a < b { b } else { a }
+    a % 8 != 0 || 4088 < a
 }
 
 // The carry of a sum.
 fn carry(a: u64, b: u64) -> u64
     ensures { result ≡ (a + b) / size }
 {
-    if words::MAX - b < a { 1 } else { 0 }
+    u64::from(u64::MAX - b < a)
 }
 
 fn sort_of(op: Operation, a: u64, b: u64) -> u64
@@ -42,14 +33,10 @@ fn sort_of(op: Operation, a: u64, b: u64) -> u64
 {
     match op {
         Operation::Add => carry(a, b),
-        Operation::Sub => words::below(a, b),
-        Operation::Mul => {
-            let p = words::product(a, b);
-            p.high
-        }
+        Operation::Sub | Operation::Sltu => u64::from(a < b),
+        Operation::Mul => words::product(a, b).high,
         Operation::Divu => 0,
         Operation::Remu => words::quotient(a, b),
-        Operation::Sltu => words::below(a, b),
     }
 }
 
@@ -57,12 +44,10 @@ fn sort_of(op: Operation, a: u64, b: u64) -> u64
 fn comparison(a: u64, b: u64) -> u64
     ensures { result ≡ comparison a b }
 {
-    if a < b {
-        0
-    } else if a == b {
-        1
-    } else {
-        2
+    match a.cmp(&b) {
+        Ordering::Less => 0,
+        Ordering::Equal => 1,
+        Ordering::Greater => 2,
     }
 }
 
@@ -77,9 +62,7 @@ fn sorted(op: Operation, rd: usize, a: u64, b: u64) -> u64
 pub fn immediate_class(registers: &Registers, op: Operation, rd: usize, rs1: usize, imm: i64) -> u64
     ensures { result ≡ class_of (Immediate op rd rs1 imm) (machine registers.now) }
 {
-    let a = register(registers, rs1);
-    let b = widen(imm);
-    sorted(op, rd, a, b)
+    sorted(op, rd, register(registers, rs1), widen(imm))
 }
 
 pub fn operation_class(
@@ -91,9 +74,7 @@ pub fn operation_class(
 ) -> u64
     ensures { result ≡ class_of (Register op rd rs1 rs2) (machine registers.now) }
 {
-    let a = register(registers, rs1);
-    let b = register(registers, rs2);
-    sorted(op, rd, a, b)
+    sorted(op, rd, register(registers, rs1), register(registers, rs2))
 }
 
 pub fn branch_class(registers: &Registers, on: Condition, rs1: usize, rs2: usize) -> u64
@@ -115,17 +96,7 @@ pub(crate) fn operands_sort(
 ) -> u64
     ensures { result ≡ sort_of op (operand first registers.now) (operand second registers.now) }
 {
-    let a = operand_value(first, registers);
-    let b = operand_value(second, registers);
-    sort_of(op, a, b)
-}
-
-fn operands_comparison(first: Operand, second: Operand, registers: &Registers) -> u64
-    ensures { result ≡ comparison (operand first registers.now) (operand second registers.now) }
-{
-    let a = operand_value(first, registers);
-    let b = operand_value(second, registers);
-    comparison(a, b)
+    sort_of(op, first.value(registers), second.value(registers))
 }
 
 fn class_by(s: Sorting, registers: &Registers) -> u64
@@ -133,7 +104,9 @@ fn class_by(s: Sorting, registers: &Registers) -> u64
 {
     match s {
         Sorting::Operates { op, first, second } => operands_sort(op, first, second, registers),
-        Sorting::Compares { first, second } => operands_comparison(first, second, registers),
+        Sorting::Compares { first, second } => {
+            comparison(first.value(registers), second.value(registers))
+        }
         Sorting::Nothing => 0,
     }
 }
@@ -142,6 +115,5 @@ fn class_by(s: Sorting, registers: &Registers) -> u64
 pub fn class_of(i: Instruction, registers: &Registers) -> u64
     ensures { result ≡ class_of i (machine registers.now) }
 {
-    let s = sorting_of(i);
-    class_by(s, registers)
+    class_by(sorting_of(i), registers)
 }

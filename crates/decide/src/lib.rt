@@ -10,13 +10,6 @@ pub mod order;
 use listing::End;
 use riscu::Instruction;
 
-// Whether points 4 to 9 of the ending order end a group.
-#[derive(Clone, Copy)]
-pub enum Verdict {
-    Ends(End),
-    Passes,
-}
-
 // What becomes of a group: its end, or its instruction, which all choices take alike or which forks.
 #[derive(Clone, Copy)]
 pub enum Decision {

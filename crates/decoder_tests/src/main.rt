@@ -3,15 +3,14 @@
 // Prints each line that differs, and how many words there are.
 #![tactic(auto)]
 
-use input::{ROOM, read_full};
 use riscu::decoder::decode;
-use riscu::{Condition, Decoded, Instruction, Operation};
+use riscu::{Condition, Instruction, Operation};
 use std::io;
-use vectors::{differs, line_end, number_at};
+use vectors::{Fields, Lines, Tally, run_table};
 use words::widen;
 
 // The row of document 01's table, from 0, or 14 for none; a field that the row lacks is 0.
-#[derive(Drop)]
+#[derive(PartialEq, Eq, Drop)]
 struct Parts {
     row: u64,
     rd: u64,
@@ -70,51 +69,34 @@ fn instruction_parts(i: Instruction) -> Parts {
 }
 
 fn decoded_parts(word: u32) -> Parts {
-    let d = decode(word);
-    let Decoded::Row(i) = d else {
+    let Some(i) = decode(word) else {
         return parts_of(14, 0, 0, 0, 0);
     };
     instruction_parts(i)
 }
 
 fn agrees(line: &[u8]) -> bool {
-    let word = number_at(line, 0);
-    let row = number_at(line, word.next);
-    let rd = number_at(line, row.next);
-    let rs1 = number_at(line, rd.next);
-    let rs2 = number_at(line, rs1.next);
-    let imm = number_at(line, rs2.next);
-    let p = decoded_parts((word.value % 4294967296) as u32);
-    (p.row == row.value)
-        & (p.rd == rd.value)
-        & (p.rs1 == rs1.value)
-        & (p.rs2 == rs2.value)
-        & (p.imm == imm.value)
-}
-
-fn print_sum(rt: &impl Print, words: u64, differ: u64) -> io::Result<()> {
-    println!(rt; "{words} words, {differ} differ")
+    let mut fields = Fields::new(line);
+    let word = fields.word();
+    let wanted = Parts {
+        row: fields.number(),
+        rd: fields.number(),
+        rs1: fields.number(),
+        rs2: fields.number(),
+        imm: fields.number(),
+    };
+    decoded_parts(word) == wanted
 }
 
 fn run_all(rt: &impl Print, text: &[u8]) -> io::Result<()> {
-    let mut words: u64 = 0;
-    let mut differ: u64 = 0;
-    let mut at: usize = 0;
-    while at < text.len() {
-        let end = line_end(text, at);
-        words += 1;
-        differ += differs(rt, agrees(&text[at..end]), words);
-        at = if end < text.len() { end + 1 } else { end };
+    let mut tally = Tally::new();
+    for line in Lines::new(text) {
+        tally.add(rt, agrees(line));
     }
-    print_sum(rt, words, differ)
+    println!(rt; "{} words, {} differ", tally.lines, tally.differ)
 }
 
 // A read or a write that fails ends it with that error.
 fn main(rt: HostRuntime) -> io::Result<()> {
-    let mut buffer = [0u8; ROOM];
-    let n = read_full(&mut rt.stdin(), &mut buffer)?;
-    if n == ROOM {
-        return println!(rt; "more input than the buffer holds");
-    }
-    run_all(&rt, &buffer[..n])
+    run_table(&rt, |text| run_all(&rt, text))
 }

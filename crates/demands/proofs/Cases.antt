@@ -8,6 +8,7 @@ use mathlib.Core.Option.{Option, none}
 use Prim.Native.Nat.{ℕ, ◌+◌, ◌-◌, ◌*◌, min}
 use native.Mathlib.Omega.{arith}
 use lib.Dec.{leb, ltb}
+use Rattle.std.specs.Prelude.{Ok}
 use lib.ListN.{length, take, drop, replicate, length-replicate, length-map, length-take, length-drop}
 use lib.Seq.{take_all}
 use borrow.Author.Tests.{leb-true, le-ltb}
@@ -20,10 +21,8 @@ use Rattle.blocks.specs.Record.{record_bytes}
 use Rattle.blocks.specs.Report.{records_in}
 use Rattle.listing.specs.First.{first}
 use Rattle.calls.specs.Questions.{in_order}
-use Rattle.calls.specs.Call.{Call, call_of, box_of, questions, refusal_of, job_of, page, reply_by, reply_to}
+use Rattle.calls.specs.Call.{Call, Answer, call_of, box_of, questions, refusal_of, job_of, page, reply_by, reply_to}
 use Rattle.calls.specs.declared.Refusal.{Refusal}
-use Rattle.calls.specs.declared.Answer.{Answer}
-use Rattle.calls.specs.declared.Answer.TheVariants.{Page}
 
 -- low, high, low, high, ..
 abbrev ends : Box → List ℕ
@@ -62,14 +61,14 @@ module _ (c : Case) (n f : ℕ) (passes : refusal_of memory words (call c n f) �
   as_many = sym (length-map (listing (case_job c)) line) ∙ ap length right
 
   answer_is : (reply_to memory words (call c n f)).answer
-      ≡ Page (min n (length c.lines - f)) (ltb (f + min n (length c.lines - f)) (length c.lines))
+      ≡ Ok (record { count = min n (length c.lines - f); more = ltb (f + min n (length c.lines - f)) (length c.lines) })
   unfolding reply_to reply_by
   answer_is = rw (passes, page_is, same_job c n f, length-take, length-drop, as_many)
 
 -- The whole table, each case on one page: its lines, and no further path.
 
 pub record Answered (c : Case) : Type 0 where
-  pub answer : (reply_to memory words (call c 64 0)).answer ≡ Page (length c.lines) false
+  pub answer : (reply_to memory words (call c 64 0)).answer ≡ Ok (record { count = length c.lines; more = false })
   pub lines : map line (page (job_of memory words (call c 64 0)) (call c 64 0)) ≡ c.lines
 
 -- no question is answered no, and the lines fit
@@ -115,7 +114,8 @@ all_pass : (refusal_of memory words (call job_a 1 0) ≡ none) × (refusal_of me
 unfolding first questions in_order box_of flat_map
 all_pass = (refl, refl, refl)
 
-pub job_a_pages : (answer_a 0 ≡ Page 1 true) × (answer_a 1 ≡ Page 1 false) × (answer_a 2 ≡ Page 0 false)
+pub job_a_pages : (answer_a 0 ≡ Ok (record { count = 1; more = true })) × (answer_a 1 ≡ Ok (record { count = 1; more = false }))
+    × (answer_a 2 ≡ Ok (record { count = 0; more = false }))
 job_a_pages =
     let right = cases_right (10, job_a) (here refl) in
     (answer_is job_a 1 0 all_pass.0 right, answer_is job_a 1 1 all_pass.1 right, answer_is job_a 1 2 all_pass.2 right)

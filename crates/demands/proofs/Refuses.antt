@@ -8,13 +8,13 @@ use mathlib.Core.Option.{Option, none, some}
 use Prim.Native.Nat.{ℕ}
 use native.Mathlib.Omega.{arith}
 use lib.ListN.{length}
+use Rattle.std.specs.Prelude.{Err}
 use Rattle.listing.proofs.First.{none_applies}
 use Rattle.calls.specs.Questions.{AllYes}
 use Rattle.calls.specs.Call.{Call, written, more, is_page, questions, refusal_of, reply_by, reply_to, table_by, called}
 use Rattle.calls.specs.Border.{refusal_by}
 use Rattle.calls.specs.Refuses.{FirstNo, Unchanged}
 use Rattle.calls.specs.declared.Refusal.{Refusal}
-use Rattle.calls.specs.declared.Answer.TheVariants.{Refused}
 use Rattle.calls.proofs.Asked.{first_no}
 
 module _ (memory : List ℕ) (words : ℕ) (c : Call) where
@@ -30,12 +30,12 @@ module _ (memory : List ℕ) (words : ℕ) (c : Call) where
   passes_page (some r) e = let z : ◌≡◌ {A = ℕ} 0 1 = cc in absurd (omega arith)
 
   -- and a refusal only by the question that is
-  pub refused_asks : (r : Refusal) (o : Option Refusal) → (reply_by memory words c o).answer ≡ Refused r → o ≡ some r
+  pub refused_asks : (r : Refusal) (o : Option Refusal) → (reply_by memory words c o).answer ≡ Err r → o ≡ some r
   unfolding reply_by
   refused_asks r none e = let z : ◌≡◌ {A = ℕ} 0 1 = cc in absurd (omega arith)
   refused_asks r (some s) e = let z : s ≡ r = cc in ap (λ (q : Refusal). some q) z
 
-  pub asks_refused : (r : Refusal) (o : Option Refusal) → o ≡ some r → (reply_by memory words c o).answer ≡ Refused r
+  pub asks_refused : (r : Refusal) (o : Option Refusal) → o ≡ some r → (reply_by memory words c o).answer ≡ Err r
   unfolding reply_by
   asks_refused r o e = rw e
 
@@ -49,7 +49,7 @@ module _ (memory table : List ℕ) (c : Call) where
   abbrev words : ℕ
   words = length table
 
-  pub refused : (r : Refusal) → ((called memory table c).reply.answer ≡ Refused r) ↔ FirstNo (questions memory words c) r
+  pub refused : (r : Refusal) → ((called memory table c).reply.answer ≡ Err r) ↔ FirstNo (questions memory words c) r
   unfolding called reply_to
   refused r =
       let o = refusal_of memory words c in
@@ -67,12 +67,12 @@ module _ (memory table : List ℕ) (c : Call) where
         λ h. passes_page memory words c o (a.1 h),
       )
 
-  unchanged_by : (r : Refusal) (o : Option Refusal) → (reply_by memory words c o).answer ≡ Refused r
+  unchanged_by : (r : Refusal) (o : Option Refusal) → (reply_by memory words c o).answer ≡ Err r
       → Unchanged memory table c (record { reply = reply_by memory words c o; table = table_by table o; memory = memory })
   unfolding reply_by table_by written more
   unchanged_by r none e = let z : ◌≡◌ {A = ℕ} 0 1 = cc in absurd (omega arith)
   unchanged_by r (some s) e = record { no_path = refl; no_further = refl; report_kept = refl; table_kept = refl; memory_kept = refl }
 
-  pub unchanged : (r : Refusal) → (called memory table c).reply.answer ≡ Refused r → Unchanged memory table c (called memory table c)
+  pub unchanged : (r : Refusal) → (called memory table c).reply.answer ≡ Err r → Unchanged memory table c (called memory table c)
   unfolding called reply_to
   unchanged r e = unchanged_by r (refusal_of memory words c) e

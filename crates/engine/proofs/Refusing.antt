@@ -5,11 +5,11 @@ use mathlib.Core.List.{List}
 use mathlib.Core.Option.{some}
 use Prim.Native.Nat.{ℕ}
 use lib.ListN.{length}
+use Rattle.std.specs.Prelude.{Err}
 use Rattle.calls.specs.Call.{Call, refusal_of, reply_by, reply_to, table_by, left, called}
 use Rattle.calls.specs.declared.Refusal.{Refusal}
-use Rattle.calls.specs.declared.Answer.TheVariants.{Refused}
 
 pub refused_leaves : {r : Refusal} (memory table : List ℕ) (c : Call) → refusal_of memory (length table) c ≡ some r
-    → left (Refused r) c.report table memory ≡ called memory table c
+    → left (Err r) c.report table memory ≡ called memory table c
 unfolding called reply_to reply_by table_by
 refused_leaves memory table c e = rw e

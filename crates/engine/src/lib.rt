@@ -7,11 +7,12 @@ ghost use Rattle.calls.specs.Call.{left};
 ghost use Rattle.calls.specs.Border.{call_lent};
 ghost use Rattle.calls.specs.Engine.{Leaves};
 
+use calls::Answer;
 use calls::questions::ask;
-use calls::{Answer, Questioned};
 use explorer::exploring::accepted;
 
 // Explores a job and writes a page of its paths, or refuses the call.
+#[tactic(auto, using(crate::proofs::Refusing::refused_leaves))]
 pub fn explore(
     code: &[u32],
     memory: &[u64],
@@ -25,9 +26,6 @@ pub fn explore(
         let l = left result report.new table.new memory.now in
         Leaves memory.now table.old c l }
 {
-    let d = ask(code, memory, intervals, limit, table, report, first);
-    let Questioned::No(r) = d else {
-        return accepted(code, memory, intervals, limit, table, report, first);
-    };
-    Answer::Refused(r)
+    ask(code, memory, intervals, limit, table, report, first)?;
+    Ok(accepted(code, memory, intervals, limit, table, report, first))
 }

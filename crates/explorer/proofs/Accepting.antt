@@ -16,7 +16,7 @@ use Rattle.boxes.proofs.Lists.{length_from, from_at}
 use Rattle.boxes.proofs.TwoLists.{length_in, at_in}
 use Rattle.blocks.specs.Record.{most_inputs, record_bytes}
 use Rattle.calls.specs.Call.{Call, call_of, Below, box_of, refusal_of, job_of, reply_by, reply_to, table_by, left, called}
-use Rattle.calls.specs.declared.Answer.TheVariants.{Page}
+use Rattle.std.specs.Prelude.{Ok}
 use Rattle.calls.proofs.Pairs.{pairs, pair_at}
 use Rattle.calls.proofs.Asked.{CallPassed, call_passed}
 use Rattle.demands.proofs.Accepted.{both, accepted_sound}
@@ -122,6 +122,6 @@ module _ (code memory intervals table report : List ℕ) (limit first : ℕ)
   }
 
   pub call_leaves : (written : List ℕ) (s : Standing) → Finished (job_in code memory intervals limits) call written s
-      → left (Page (s.paths - first) (more s.phase)) written (replicate (length table) 0) memory ≡ called memory table call
+      → left (Ok (record { count = s.paths - first; more = more s.phase })) written (replicate (length table) 0) memory ≡ called memory table call
   unfolding called reply_to reply_by table_by job_of
   call_leaves written s f = rw (d, f.count, f.further, f.bytes)

@@ -20,10 +20,11 @@ use Rattle.blocks.proofs.Reading.{records_append}
 use Rattle.forks.specs.Working.Stack.{Fork}
 use Rattle.decide.specs.declared.Limits.{Limits}
 use Rattle.decide.specs.declared.Decision.TheVariants.{Ended, Steps}
-use Rattle.lockstep.specs.Working.LockStep.{Machines, both, advanced}
+use Rattle.lockstep.specs.Working.LockStep.{both, advanced}
 use Rattle.pages.specs.Working.Page.{ended_path, page_with, filled}
 use Rattle.pages.specs.declared.Window.{Window}
 use Rattle.pages.proofs.Page.{registers_in, ended_length, page_early, page_more, page_past, page_length}
+use Rattle.lockstep.specs.declared.Machines.{Machines}
 use Rattle.explorer.specs.Working.Held.{Lists, lists, moved, latest, listed, corners_in, decision_on, going, at_group, more, Held, stepped, dropped, ended, work, GoesOn}
 use Rattle.explorer.specs.Working.Explored.{StopsAt, Explored, Turned, Later, halted}
 use Rattle.explorer.specs.declared.Phase.TheVariants.{AtGroup, Between}

@@ -17,10 +17,11 @@ use Rattle.forks.specs.Working.Table.{group_in, forks_in}
 use Rattle.forks.proofs.Positions.{reached_represents}
 use Rattle.forks.proofs.Page.{page_ended, page_full}
 use Rattle.decide.specs.declared.Limits.{Limits}
-use Rattle.lockstep.specs.Working.LockStep.{Machines, both, lock_steps, starting}
+use Rattle.lockstep.specs.Working.LockStep.{both, lock_steps, starting}
 use Rattle.lockstep.specs.declared.Corners.{Corners}
 use Rattle.pages.specs.Working.Page.{filled}
 use Rattle.pages.specs.declared.Window.{Window}
+use Rattle.lockstep.specs.declared.Machines.{Machines}
 use Rattle.explorer.specs.Working.Held.{Lists, lists, group_of, listed, going, more, Held}
 use Rattle.explorer.specs.Working.Explored.{Explored}
 use Rattle.explorer.specs.Working.Finished.{Begins, Finished, begun}

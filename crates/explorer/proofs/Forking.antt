@@ -15,7 +15,7 @@ use Rattle.boxes.proofs.OneInput.{one_input_convex}
 use Rattle.boxes.proofs.Pieces.{edge_exists}
 use Rattle.riscu.specs.Machine.{State, fetch}
 use Rattle.riscu.specs.declared.Instruction.{Instruction}
-use Rattle.riscu.specs.declared.Decoded.TheVariants.{Row}
+use Rattle.std.specs.Prelude.{Some}
 use Rattle.listing.specs.Group.{Job, Group, after, class_of}
 use Rattle.listing.specs.Ending.{writes, end_by}
 use Rattle.listing.specs.Listing.{later}
@@ -160,7 +160,7 @@ module _ {j : Job} {m : Limits} {x : Lists} {s : Standing} {i : Instruction} (k 
               let reached : Reached j (running (listed j s) (group_of y r) (forks_of y r)) =
               rw (written_is h k.group i, add-one s.forks, on_top, below_box) (turned h k.group turn) in
               let within : Within (box_in y.lows y.highs) g.box = rw below_box (below_within edge.splits) in
-              let row : fetch j.code s.at.low.pc ≡ Row i = rw (stands h k.group).pc fetched in
+              let row : fetch j.code s.at.low.pc ≡ Some i = rw (stands h k.group).pc fetched in
               record {
                 fits = fits;
                 reached = reached;

@@ -16,8 +16,7 @@ use Rattle.boxes.proofs.OneInput.{one_input_convex}
 use Rattle.boxes.proofs.Pieces.{edge_exists}
 use Rattle.riscu.specs.Machine.{State, fetch}
 use Rattle.riscu.specs.declared.Instruction.{Instruction}
-use Rattle.riscu.specs.declared.Decoded.{Decoded}
-use Rattle.riscu.specs.declared.Decoded.TheVariants.{Row, NoRow}
+use Rattle.std.specs.Prelude.{Option, Some, None}
 use Rattle.listing.specs.Group.{Job, Group, after, class_of}
 use Rattle.listing.specs.Ending.{writes}
 use Rattle.listing.specs.Listing.{Path, Progress, later}
@@ -31,13 +30,14 @@ use Rattle.forks.proofs.Parts.{fetched_part, written_part}
 use Rattle.forks.proofs.Turns.{known_fork, rest_within, rest_proper, rest_good, rest_one, rest_cuttable, takes_whole, takes_first}
 use Rattle.forks.proofs.Positions.{reached_represents, turn_represents, represents_moves, within_limit, depth}
 use Rattle.decide.specs.Working.Corner.{machine}
-use Rattle.lockstep.specs.Working.LockStep.{Machines, both, advanced, lock_steps, starting, AtCorners}
+use Rattle.lockstep.specs.Working.LockStep.{both, advanced, lock_steps, starting, AtCorners}
 use Rattle.decide.proofs.Decisions.{class_by_registers}
 use Rattle.decide.specs.declared.Limits.{Limits}
 use Rattle.lockstep.specs.declared.Corners.{Corners}
 use Rattle.cuts.specs.Working.Cutting.{probed, Starts}
 use Rattle.cuts.specs.Working.Forking.{Parted}
 use Rattle.cuts.proofs.Edges.{starts_in, parted_edge, parted_below}
+use Rattle.lockstep.specs.declared.Machines.{Machines}
 use Rattle.explorer.specs.Working.Held.{Lists, lists, group_of, forks_of, latest, listed, corners_in, with_high, low_class, high_class, at_group, Held, Rest, AtRest, GoesOn, Takeable, TakenUp, dropped, resumed, groups_left, work}
 use Rattle.explorer.specs.declared.Phase.TheVariants.{AtGroup, Between}
 use Rattle.explorer.specs.declared.Standing.{Standing}
@@ -48,11 +48,11 @@ use Rattle.explorer.proofs.Forking.{replayed_to, corners_below}
 use Rattle.corners.specs.Working.Good.{low_state, high_state, weight}
 
 -- a word is no instruction or one
-module _ {d : Decoded} {i : Instruction} (e : d ≡ Row i) where
-  pub one_row : {r : Instruction} → d ≡ Row r → r ≡ i
+module _ {d : Option Instruction} {i : Instruction} (e : d ≡ Some i) where
+  pub one_row : {r : Instruction} → d ≡ Some r → r ≡ i
   one_row q = cc
 
-  pub some_row : {A : Type 0} → d ≡ NoRow → A
+  pub some_row : {A : Type 0} → d ≡ None → A
   some_row q = let v : ◌≡◌ {A = ℕ} 0 1 = cc in absurd (omega arith)
 
 pub forks_top : (t : List ℕ) (n : ℕ) → 0 < n → forks_in t n ≡ fork_in t (n - 1) ∷ forks_in t (n - 1)
@@ -128,7 +128,7 @@ module _ {j : Job} {m : Limits} {ps : List Path} {x : Lists} {s : Standing} (h :
   module _ (t : (latest x s).spent ≡ false) (ls hs : List ℕ)
       (b : box_in ls hs ≡ cut (box_in x.lows x.highs) (latest x s).input ((latest x s).rest ⋯ (latest x s).high))
       (p : length ls ≡ length x.lows) (q : length hs ≡ length x.highs) where
-    rest_row : fetch j.code (low_state j (left (latest x s) (group_of x s).box)).pc ≡ Row (known_fork rests.1).instruction
+    rest_row : fetch j.code (low_state j (left (latest x s) (group_of x s).box)).pc ≡ Some (known_fork rests.1).instruction
     rest_row = let r = rests.1 in
         fetched_part j (before (latest x s) (group_of x s).box) (known_fork r).good (left (latest x s) (group_of x s).box).box
         (rest_within r) (rest_proper r) (known_fork r).followed
@@ -142,10 +142,10 @@ module _ {j : Job} {m : Limits} {ps : List Path} {x : Lists} {s : Standing} (h :
       low_pc : a.low.pc ≡ (low_state j (left (latest x s) (group_of x s).box)).pc
       low_pc = ap (λ (t : State). t.pc) there.low ∙ rw b
 
-      pub rest_fetches : fetch j.code a.low.pc ≡ Row (known_fork rests.1).instruction
+      pub rest_fetches : fetch j.code a.low.pc ≡ Some (known_fork rests.1).instruction
       rest_fetches = rw low_pc rest_row
 
-      pub held_rest : (i : Instruction) → fetch j.code a.low.pc ≡ Row i → Rest j m ps (group_of x s) (lists ls hs x.table y) s i a
+      pub held_rest : (i : Instruction) → fetch j.code a.low.pc ≡ Some i → Rest j m ps (group_of x s) (lists ls hs x.table y) s i a
       held_rest i f = record {
         fits = fits_again h.fits p q refl;
         reached = between;
@@ -209,7 +209,7 @@ module _ {j : Job} {m : Limits} {ps : List Path} {g : Group} {x : Lists} {s : St
       ((sym h.fits.inputs ∙ sym (length_in x.lows x.highs h.fits.paired) ∙ ap length h.box) k)) i)
 
   -- the instruction at the low corner
-  row : fetch j.code a.low.pc ≡ Row i
+  row : fetch j.code a.low.pc ≡ Some i
   row = rw (ap (λ (t : State). t.pc) h.corners.low, h.box) h.fetched
 
   -- a turn from here is no move
@@ -352,11 +352,11 @@ module _ {j : Job} {m : Limits} {x : Lists} {s : Standing} {f : Fork} (h : AtRes
   abbrev unspent : (latest x s).spent ≡ false
   unspent = rw k at h.unspent
 
-  module _ (i : Instruction) (d : (r : Instruction) → fetch j.code a.low.pc ≡ Row r → i ≡ r) where
+  module _ (i : Instruction) (d : (r : Instruction) → fetch j.code a.low.pc ≡ Some r → i ≡ r) where
     rest_held : Rest j m (listed j s) (group_of x s) rest_lists s i a
     rest_held =
         let e = rest_fetches h.held h.between h.some unspent ls hs (rw k at b) p q y a (rw k at z) in
-        held_rest h.held h.between h.some unspent ls hs (rw k at b) p q y a (rw k at z) i (e ∙ ap Row (sym (d _ e)))
+        held_rest h.held h.between h.some unspent ls hs (rw k at b) p q y a (rw k at z) i (e ∙ ap Some (sym (d _ e)))
 
     pub take_steps : f.steps + 1 ≤ m.steps
     take_steps = rw k (rest_steps rest_held)

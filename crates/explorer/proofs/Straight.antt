@@ -8,7 +8,7 @@ use lib.Dec.{ltb}
 use lib.ListN.{length}
 use Rattle.riscu.specs.Machine.{fetch}
 use Rattle.riscu.specs.declared.Instruction.{Instruction}
-use Rattle.riscu.specs.declared.Decoded.TheVariants.{Row}
+use Rattle.std.specs.Prelude.{Some}
 use Rattle.listing.specs.Group.{Job}
 use Rattle.listing.specs.Ending.{writes}
 use Rattle.listing.specs.Listing.{Path, later}
@@ -19,12 +19,13 @@ use Rattle.forks.specs.Working.Table.{group_in}
 use Rattle.boxes.specs.Working.Cuts.{box_in}
 use Rattle.boxes.proofs.TwoLists.{lows_in, highs_in}
 use Rattle.forks.proofs.Positions.{reached_represents, within_limit}
-use Rattle.lockstep.specs.Working.LockStep.{Pair, Machines, advanced, AtCorners}
+use Rattle.lockstep.specs.Working.LockStep.{Pair, advanced, AtCorners}
 use Rattle.lockstep.proofs.LockStep.{advanced_at}
 use Rattle.decide.proofs.Says.{says_steps}
 use Rattle.decide.specs.declared.Limits.{Limits}
 use Rattle.decide.specs.declared.Decision.TheVariants.{Steps}
 use Rattle.lockstep.specs.declared.Corners.{Corners}
+use Rattle.lockstep.specs.declared.Machines.{Machines}
 use Rattle.explorer.specs.Working.Held.{Lists, group_of, forks_of, corners_in, decision_on, Held, moved, stepped, groups_left, work}
 use Rattle.explorer.specs.declared.Phase.TheVariants.{AtGroup}
 use Rattle.explorer.specs.declared.Standing.{Standing}
@@ -33,7 +34,7 @@ use Rattle.corners.specs.Working.Good.{Good, weight}
 
 -- one instruction further at both corners, where the group one step later is good
 pub corners_next : (j : Job) (ls hs : List ℕ) (n u : ℕ) {i : Instruction} {p : Pair} → length ls ≡ length hs
-    → Good j (group_in ls hs (n + 1) u) → fetch j.code p.low.pc ≡ Row i → AtCorners j (box_in ls hs) n p
+    → Good j (group_in ls hs (n + 1) u) → fetch j.code p.low.pc ≡ Some i → AtCorners j (box_in ls hs) n p
     → AtCorners j (box_in ls hs) (n + 1) (advanced ls hs i p)
 corners_next j ls hs n u e g f a =
     rw (lows_in ls hs e, highs_in ls hs e) at (advanced_at j (box_in ls hs) g.sound (g.smooth n (omega arith)) f a)
@@ -59,7 +60,7 @@ module _ {j : Job} {m : Limits} {ps : List Path} {x : Lists} {s : Standing} (h :
     held_straight y a q =
         let g = (reached_represents h.fits.sound (turned h e turn)).1.good in
         let k = stands h e in
-        let row : fetch j.code s.at.low.pc ≡ Row i = rw k.pc (says_steps k d).1 in
+        let row : fetch j.code s.at.low.pc ≡ Some i = rw k.pc (says_steps k d).1 in
         record {
           fits = h.fits;
           reached = rw (written_is i) (turned h e turn);

@@ -6,9 +6,9 @@ use Prim.Native.Nat.{ℕ, ◌≤◌}
 use native.Mathlib.Omega.{arith}
 use Rattle.listing.specs.Group.{Job}
 use Rattle.decide.specs.declared.Limits.{Limits}
-use Rattle.lockstep.specs.Working.LockStep.{Machines}
 use Rattle.pages.specs.declared.Window.{Window}
 use Rattle.straight.specs.Working.Stepped.{Place, place, StraightRun, none, more}
+use Rattle.lockstep.specs.declared.Machines.{Machines}
 use Rattle.explorer.specs.Working.Held.{Lists, used_of, going, standing, further, work}
 use Rattle.explorer.specs.Working.Explored.{Explored, RunsOn}
 use Rattle.explorer.specs.declared.Phase.TheVariants.{AtGroup}

@@ -13,7 +13,20 @@ ghost use Rattle.explorer.specs.Working.Held.{standing, going, at_group, more};
 ghost use Rattle.explorer.specs.Working.Explored.{halted};
 ghost use Rattle.explorer.specs.declared.Phase.TheVariants.{AtGroup};
 
+use decide::Limits;
 use lockstep::Corners;
+use pages::Window;
+use riscu::plain::Memory;
+
+// What an exploration reads and never writes. The intervals of the inputs are there for the contracts: it begins with their lows and highs.
+#[derive(Clone, Copy)]
+pub(crate) struct Task<'a> {
+    pub(crate) code: &'a [u32],
+    pub(crate) memory: &'a Memory,
+    pub(crate) intervals: &'a [u64],
+    pub(crate) limits: Limits,
+    pub(crate) window: Window,
+}
 
 // At a group, between two groups, or stopped, with the answer whether a further path exists.
 #[derive(Clone, Copy)]
@@ -62,33 +75,18 @@ impl Standing {
     fn is_going(self) -> bool
         ensures { result ≡ going self.phase }
     {
-        let p = self.phase;
-        match p {
-            Phase::AtGroup => true,
-            Phase::Between => true,
-            Phase::Stopped { more } => false,
-        }
+        matches!(self.phase, Phase::AtGroup | Phase::Between)
     }
 
     fn is_at_group(self) -> bool
         ensures { result ≡ at_group self.phase }
     {
-        let p = self.phase;
-        match p {
-            Phase::AtGroup => true,
-            Phase::Between => false,
-            Phase::Stopped { more } => false,
-        }
+        matches!(self.phase, Phase::AtGroup)
     }
 
     fn has_more(self) -> bool
         ensures { result ≡ more self.phase }
     {
-        let p = self.phase;
-        match p {
-            Phase::AtGroup => false,
-            Phase::Between => false,
-            Phase::Stopped { more } => more,
-        }
+        matches!(self.phase, Phase::Stopped { more: true })
     }
 }

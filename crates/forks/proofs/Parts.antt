@@ -9,7 +9,7 @@ use Rattle.boxes.specs.Working.Cuts.{Proper}
 use Rattle.boxes.proofs.Choices.{lows_inside, inside_length}
 use Rattle.riscu.specs.Machine.{fetch}
 use Rattle.riscu.specs.declared.Instruction.{Instruction}
-use Rattle.riscu.specs.declared.Decoded.TheVariants.{Row}
+use Rattle.std.specs.Prelude.{Some}
 use Rattle.listing.specs.Group.{Job, Group, after, class_of}
 use Rattle.listing.specs.Listing.{later}
 use Rattle.corners.proofs.Smooth.{smooth_within}
@@ -36,7 +36,7 @@ module _ (j : Job) (g : Group) (good : Good j g) (q : Box) (w : Within q g.box) 
       let l : length q ≡ length g.box = sym (inside_length q (lows q) (lows_inside q p)) ∙ inside_length g.box (lows q) m in
       cc
 
-  pub fetched_part : {i : Instruction} → Followed j g.box g.steps i → fetch j.code (low_state j (on_box g q)).pc ≡ Row i
+  pub fetched_part : {i : Instruction} → Followed j g.box g.steps i → fetch j.code (low_state j (on_box g q)).pc ≡ Some i
   fetched_part f = f.fetched (lows q) (w (lows q) (lows_inside q p))
 
   pub rest_part : {i : Instruction} → Followed j g.box g.steps i

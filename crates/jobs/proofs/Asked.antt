@@ -1,11 +1,11 @@
 -- What the questions on a job leave.
 -- Assumes nothing.
-use mathlib.Core.Path.{◌≡◌, sym, ◌∙◌}
-use mathlib.Core.Bool.{Bool, true, false, not, ◌&&◌, and-eq-true_iff}
+use mathlib.Core.Path.{◌≡◌}
+use mathlib.Core.Bool.{Bool, true, ◌&&◌, and-eq-true_iff}
 use mathlib.Core.List.{List}
 use mathlib.Core.Option.{none}
 use Prim.Native.Nat.{ℕ, ◌%◌, ◌≤◌}
-use borrow.Author.Tests.{leb-true, eqb-true, not-false}
+use borrow.Author.Tests.{leb-true, eqb-true}
 use lib.Dec.{leb, eqb}
 use lib.ListN.{length}
 use Rattle.riscu.specs.Limits.{code_words}
@@ -26,10 +26,6 @@ whole_left bytes e = eqb-true _ _ (both (eqb (length bytes % block_bytes) 0) _ e
 
 pub code_left : (n : ℕ) → code_fits n ≡ true → n ≤ code_words
 code_left n e = leb-true _ _ (both (leb 1 n) _ e).1
-
--- a code's answer that was yes
-pub yes : {t b : Bool} → t ≡ b → not t ≡ false → b ≡ true
-yes {t} e y = sym e ∙ not-false t y
 
 pub record Passed (bytes : List ℕ) : Type 0 where
   pub whole : whole_blocks bytes ≡ true

@@ -4,6 +4,7 @@
 --     Asked       what the questions on a job leave
 --     Accepted    an accepted job leaves only questions 5 and 7 of a call
 --     Typed       what is read from bytes is of its types
+--     Zeros       a test of numbers in a row, as one of a range
 --     Same        what is read and how many memory words are given are all of an accepted job
 --     Examples    document 01's Job A, read, and changes of it, refused
 pub mod Placed
@@ -11,5 +12,6 @@ pub mod Copied
 pub mod Asked
 pub mod Accepted
 pub mod Typed
+pub mod Zeros
 pub mod Same
 pub mod Examples

@@ -3,7 +3,7 @@ ghost use Rattle.std.specs.Prelude.{◌≡◌, ◌≤◌, ◌<◌};
 ghost use Rattle.blocks.specs.Block.{word_at};
 ghost use Rattle.blocks.specs.Record.{most_inputs};
 ghost use Rattle.jobs.specs.Job.{input_count, code_payload, blocks_for, first_code, blocks_needed, payload_at, code_at, interval_at, intervals_in};
-ghost use Rattle.jobs.specs.Working.Reading.{Whole, over};
+ghost use Rattle.jobs.specs.Working.Reading.{Whole, Sized, over};
 
 use crate::header::{INPUT_COUNT, high_at, low_at};
 use blocks::byte_words::word_at;
@@ -40,15 +40,77 @@ pub fn blocks_needed(inputs: usize, code: usize, given: usize) -> usize
     first_code(inputs) + blocks_for(code_payload(code)) + blocks_for(given)
 }
 
-// Word k of whole blocks; 0 past the end.
-pub(crate) fn word(bytes: &[u8], k: usize) -> u64
-    requires { Whole bytes.now }
-    ensures { result ≡ word_at bytes.now k }
-{
-    if k < bytes.len() / WORD_BYTES {
-        return word_at(bytes, k * WORD_BYTES);
+// Bytes that are whole blocks.
+#[derive(Clone, Copy)]
+pub(crate) struct WholeBlocks<'a> {
+    pub bytes: &'a [u8],
+    ghost whole: { Whole bytes.now },
+}
+
+impl<'a> WholeBlocks<'a> {
+    // Word k; 0 past the end.
+    pub(crate) fn word(self, k: usize) -> u64
+        ensures { result ≡ word_at self.entry.bytes.now k }
+    {
+        if k < self.bytes.len() / WORD_BYTES {
+            return word_at(self.bytes, k * WORD_BYTES);
+        }
+        0
     }
-    0
+
+    pub(crate) fn input_count(self) -> usize
+        ensures { result ≡ input_count self.entry.bytes.now }
+    {
+        self.word(INPUT_COUNT) as usize
+    }
+
+    // Payload word i of the part that begins with a block.
+    pub(crate) fn payload_word(self, block: usize, i: usize) -> u64
+        requires { (block < 4096) × (i < 4096) }
+        ensures { result ≡ payload_at self.entry.bytes.now block i }
+    {
+        self.word((block + i / PAYLOAD_WORDS) * BLOCK_WORDS + i % PAYLOAD_WORDS)
+    }
+
+    // Code word j: the low half first.
+    pub(crate) fn code_word(self, j: usize) -> u32
+        requires { j < 4096 }
+        ensures { result ≡ code_at self.entry.bytes.now j }
+    {
+        let w = self.payload_word(first_code(self.input_count()), j / 2);
+        if j % 2 == 0 {
+            return (w & 0xffff_ffff) as u32;
+        }
+        (w >> 32) as u32
+    }
+
+    // Interval word j: low, high, low, high.
+    fn interval_word(self, j: usize) -> u64
+        requires { j < 4096 }
+        ensures { result ≡ interval_at self.entry.bytes.now j }
+    {
+        if j % 2 == 0 {
+            return self.word(low_at(self.input_count(), j / 2));
+        }
+        self.word(high_at(self.input_count(), j / 2))
+    }
+
+    // The intervals of the inputs, over the old ones.
+    pub(crate) fn intervals_in(self, intervals: &mut [u64; 2 * MOST_INPUTS])
+        requires { input_count self.bytes.now ≤ most_inputs }
+        ensures { intervals.new ≡ over (intervals_in self.entry.bytes.now) intervals.old }
+    {
+        for k in 0..2 * self.input_count() {
+            intervals[k] = self.interval_word(k);
+        }
+    }
+}
+
+// Blocks of a job whose counts fit what they are read into.
+#[derive(Clone, Copy)]
+pub(crate) struct SizedJob<'a> {
+    pub blocks: WholeBlocks<'a>,
+    ghost sized: { Sized blocks.bytes.now },
 }
 
 // The input count of a job of whole blocks.
@@ -56,54 +118,5 @@ pub fn input_count(bytes: &[u8]) -> usize
     requires { Whole bytes.now }
     ensures { result ≡ input_count bytes.now }
 {
-    word(bytes, INPUT_COUNT) as usize
-}
-
-// Payload word i of the part that begins with a block.
-pub(crate) fn payload_word(bytes: &[u8], block: usize, i: usize) -> u64
-    requires { Whole bytes.now × (block < 4096) × (i < 4096) }
-    ensures { result ≡ payload_at bytes.now block i }
-{
-    word(
-        bytes,
-        (block + i / PAYLOAD_WORDS) * BLOCK_WORDS + i % PAYLOAD_WORDS,
-    )
-}
-
-// Code word j: the low half first.
-pub(crate) fn code_word(bytes: &[u8], j: usize) -> u32
-    requires { Whole bytes.now × (j < 4096) }
-    ensures { result ≡ code_at bytes.now j }
-{
-    let w = payload_word(bytes, first_code(input_count(bytes)), j / 2);
-    if j % 2 == 0 {
-        return (w % 4294967296) as u32;
-    }
-    (w / 4294967296) as u32
-}
-
-// Interval word j: low, high, low, high.
-pub(crate) fn interval_word(bytes: &[u8], j: usize) -> u64
-    requires { Whole bytes.now × (j < 4096) }
-    ensures { result ≡ interval_at bytes.now j }
-{
-    if j % 2 == 0 {
-        return word(bytes, low_at(input_count(bytes), j / 2));
-    }
-    word(bytes, high_at(input_count(bytes), j / 2))
-}
-
-// The intervals of the inputs, over the old ones.
-pub(crate) fn intervals_in(bytes: &[u8], old: [u64; 2 * MOST_INPUTS]) -> [u64; 2 * MOST_INPUTS]
-    requires { Whole bytes.now × (input_count bytes.now ≤ most_inputs) }
-    ensures { result ≡ over (intervals_in bytes.now) old }
-{
-    let n = 2 * input_count(bytes);
-    let mut words = old;
-    let mut k: usize = 0;
-    while k < n {
-        words[k] = interval_word(bytes, k);
-        k += 1;
-    }
-    words
+    WholeBlocks { bytes }.input_count()
 }

@@ -3,8 +3,6 @@
 // A refused job changes nothing that is lent.
 #![tactic(auto)]
 
-use calls::Refusal;
-
 mod asking;
 pub mod header;
 pub mod job_words;
@@ -17,11 +15,4 @@ pub struct Counts {
     pub inputs: u64,
     pub limit: u64,
     pub first: u64,
-}
-
-// What the reader answers.
-#[derive(Clone, Copy)]
-pub enum JobAnswer {
-    Refused(Refusal),
-    Read(Counts),
 }

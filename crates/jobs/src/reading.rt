@@ -2,61 +2,48 @@
 ghost use Rattle.std.specs.Prelude.{◌≡◌};
 ghost use Rattle.std.proofs.Math.Option.{none};
 ghost use Rattle.jobs.specs.Job.{code_in, memory_in, job_refusal_of};
-ghost use Rattle.jobs.specs.Working.Reading.{Sized, counts_in, over, left_in, read_into};
+ghost use Rattle.jobs.specs.Working.Reading.{counts_in, over, left_in, read_into};
 
+use crate::Counts;
 use crate::asking::ask_job;
 use crate::header::{CODE_COUNT, FIRST_PATH, GIVEN_COUNT, INPUT_COUNT, STEP_LIMIT};
-use crate::job_words::{
-    blocks_for, code_payload, code_word, first_code, input_count, intervals_in, payload_word, word,
-};
-use crate::{Counts, JobAnswer};
+use crate::job_words::{SizedJob, WholeBlocks, blocks_for, code_payload, first_code};
 use blocks::MOST_INPUTS;
-use calls::Questioned;
+use calls::Refusal;
 use calls::questions::CODE_WORDS;
 use riscu::plain::Machine;
 
 // The code words that the job gives, over the old ones.
-fn code_in(bytes: &[u8], old: [u32; CODE_WORDS]) -> [u32; CODE_WORDS]
-    requires { Sized bytes.now }
-    ensures { result ≡ over (code_in bytes.now) old }
+fn code_in(job: SizedJob<'_>, code: &mut [u32; CODE_WORDS])
+    ensures { code.new ≡ over (code_in job.entry.blocks.bytes.now) code.old }
 {
-    let n = word(bytes, CODE_COUNT) as usize;
-    let mut words = old;
-    let mut k: usize = 0;
-    while k < n {
-        words[k] = code_word(bytes, k);
-        k += 1;
+    for k in 0..job.blocks.word(CODE_COUNT) as usize {
+        code[k] = job.blocks.code_word(k);
     }
-    words
 }
 
 // The memory words given, and then 0.
-fn memory_in(bytes: &[u8]) -> [u64; Machine::MEMORY_WORDS]
-    requires { Sized bytes.now }
-    ensures { result ≡ memory_in bytes.now }
+fn memory_in(job: SizedJob<'_>, memory: &mut [u64; Machine::MEMORY_WORDS])
+    ensures { memory.new ≡ memory_in job.entry.blocks.bytes.now }
 {
-    let first = first_code(input_count(bytes))
-        + blocks_for(code_payload(word(bytes, CODE_COUNT) as usize));
-    let n = word(bytes, GIVEN_COUNT) as usize;
-    let mut words = [0u64; Machine::MEMORY_WORDS];
-    let mut k: usize = 0;
-    while k < n {
-        words[k] = payload_word(bytes, first, k);
-        k += 1;
+    let blocks = job.blocks;
+    let first = first_code(blocks.input_count())
+        + blocks_for(code_payload(blocks.word(CODE_COUNT) as usize));
+    *memory = [0u64; Machine::MEMORY_WORDS];
+    for k in 0..blocks.word(GIVEN_COUNT) as usize {
+        memory[k] = blocks.payload_word(first, k);
     }
-    words
 }
 
 // The numbers of a job.
-fn counts(bytes: &[u8]) -> Counts
-    requires { Sized bytes.now }
-    ensures { result ≡ counts_in bytes.now }
+fn counts(blocks: WholeBlocks<'_>) -> Counts
+    ensures { result ≡ counts_in blocks.entry.bytes.now }
 {
     Counts {
-        code: word(bytes, CODE_COUNT),
-        inputs: word(bytes, INPUT_COUNT),
-        limit: word(bytes, STEP_LIMIT),
-        first: word(bytes, FIRST_PATH),
+        code: blocks.word(CODE_COUNT),
+        inputs: blocks.word(INPUT_COUNT),
+        limit: blocks.word(STEP_LIMIT),
+        first: blocks.word(FIRST_PATH),
     }
 }
 
@@ -66,28 +53,29 @@ fn accept(
     code: &mut [u32; CODE_WORDS],
     intervals: &mut [u64; 2 * MOST_INPUTS],
     memory: &mut [u64; Machine::MEMORY_WORDS],
-) -> JobAnswer
+) -> Counts
     requires { job_refusal_of bytes.now ≡ none }
-    ensures { left_in result code intervals memory ≡ read_into bytes code intervals memory }
+    ensures { left_in (Ok result) code intervals memory ≡ read_into bytes code intervals memory }
 {
-    *code = code_in(bytes, *code);
-    *intervals = intervals_in(bytes, *intervals);
-    *memory = memory_in(bytes);
-    JobAnswer::Read(counts(bytes))
+    let blocks = WholeBlocks { bytes };
+    let job = SizedJob { blocks };
+    code_in(job, code);
+    blocks.intervals_in(intervals);
+    memory_in(job, memory);
+    counts(blocks)
 }
 
-// Reads a job: the answer, and where no question is answered no, its code, intervals and memory.
+// Reads a job: the answer, and where no question is answered no, its code, intervals and memory. They go into arrays of the most that
+// a job holds, which the caller lends: there is no heap.
+#[tactic(auto, unfolding(crate::specs::Working::Reading::read_to, crate::specs::Working::Reading::read_by))]
 pub fn read_job(
     bytes: &[u8],
     code: &mut [u32; CODE_WORDS],
     intervals: &mut [u64; 2 * MOST_INPUTS],
     memory: &mut [u64; Machine::MEMORY_WORDS],
-) -> JobAnswer
+) -> Result<Counts, Refusal>
     ensures { left_in result code intervals memory ≡ read_into bytes code intervals memory }
 {
-    let d = ask_job(bytes);
-    let Questioned::No(r) = d else {
-        return accept(bytes, code, intervals, memory);
-    };
-    JobAnswer::Refused(r)
+    ask_job(bytes)?;
+    Ok(accept(bytes, code, intervals, memory))
 }

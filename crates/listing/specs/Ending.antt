@@ -2,15 +2,13 @@
 -- Point 8 is as document 02, No. 1, has it: with one open register twice SUB, SLTU and BEQ go on; ADD and MUL do not.
 -- Points 7 and 8 are as Nos. 3 and 5 have them: DIVU by a fixed number, 0 included, and REMU by 0 end at neither of the two, and MUL by
 -- a fixed number ends there with reason 5 alone.
-use Rattle.std.specs.Prelude.{ℕ, ◌+◌, ◌-◌, ◌%◌, Bool, false, cond, not, ◌&&◌, ◌||◌, List, [], ◌∷◌, ◌++◌, ltb, eqb, length, ℤ}
+use Rattle.std.specs.Prelude.{ℕ, ◌+◌, ◌-◌, ◌%◌, Bool, false, cond, not, ◌&&◌, ◌||◌, List, [], ◌∷◌, ◌++◌, ltb, eqb, length, ℤ, Option as Maybe, Some, None}
 use Rattle.std.proofs.Math.Option.{Option, some}
 use Rattle.riscu.specs.Machine.{State, reg, offset, bad_pc, fetch}
 use Rattle.riscu.specs.declared.Operation.{Operation}
 use Rattle.riscu.specs.declared.Operation.TheVariants.{Add, Sub, Mul, Divu, Remu, Sltu}
 use Rattle.riscu.specs.declared.Instruction.{Instruction}
 use Rattle.riscu.specs.declared.Instruction.TheVariants.{Lui, Immediate, Register, Ld, Sd, Branch, Jal, Jalr, Ecall}
-use Rattle.riscu.specs.declared.Decoded.{Decoded}
-use Rattle.riscu.specs.declared.Decoded.TheVariants.{Row, NoRow}
 pub use Rattle.listing.specs.First.{Case, ◌⇒◌}
 unfoldable pub use Rattle.listing.specs.First.{first}
 use Rattle.listing.specs.Group.{Job, Group, View, view_of, sort_of, sorting_of, operand}
@@ -136,9 +134,9 @@ needs g v i = writes (ltb v.reads (length g.box)) i + cond (ltb 1 (length (v.pie
 
 -- The end of a group by a view of it: points 1 and 2, then 3, then 4 to 10.
 module _ (j : Job) (g : Group) (v : View) where
-  unfoldable pub end_at : Decoded → Option End
-  end_at NoRow = some BadWord
-  end_at (Row i) = first (points v i ++ ((ltb (j.entries - g.used) (needs g v i) ⇒ TraceFull) ∷ []))
+  unfoldable pub end_at : Maybe Instruction → Option End
+  end_at None = some BadWord
+  end_at (Some i) = first (points v i ++ ((ltb (j.entries - g.used) (needs g v i) ⇒ TraceFull) ∷ []))
 
   unfoldable pub end_by : Option End
   end_by =

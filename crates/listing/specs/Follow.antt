@@ -1,19 +1,18 @@
 -- One choice followed through the forks, by the rules of the plain listing's moves: the group that the choice is in.
-use Rattle.std.specs.Prelude.{◌≡◌, ℕ, zero, suc, ◌≤◌, ◌<◌, get_or}
+use Rattle.std.specs.Prelude.{◌≡◌, ℕ, zero, suc, ◌≤◌, ◌<◌, get_or, Option as Maybe, Some, None}
 use Rattle.std.proofs.Math.Option.{Option, none, some}
 use Rattle.boxes.specs.Boxes.{Choice, Box, ◌⋯◌, at, piece, Inside}
 use Rattle.riscu.specs.Machine.{fetch}
-use Rattle.riscu.specs.declared.Decoded.{Decoded}
-use Rattle.riscu.specs.declared.Decoded.TheVariants.{Row, NoRow}
+use Rattle.riscu.specs.declared.Instruction.{Instruction}
 use Rattle.listing.specs.Group.{Job, Group, after, class_of, view_of}
 use Rattle.listing.specs.Ending.{needs, end_of}
 use Rattle.listing.specs.Listing.{later, whole}
 use Rattle.listing.specs.declared.End.{End}
 
 -- the piece of a group that the choice falls in, one step later
-unfoldable pub piece_of : Job → Group → Choice → Decoded → Group
-piece_of j g c NoRow = g
-piece_of j g c (Row i) =
+unfoldable pub piece_of : Job → Group → Choice → Maybe Instruction → Group
+piece_of j g c None = g
+piece_of j g c (Some i) =
     let class : Choice → ℕ = λ d. class_of i (after j g.steps d) in
     later g (needs g (view_of j g) i) (piece class g.box (class c))
 

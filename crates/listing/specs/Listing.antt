@@ -1,10 +1,9 @@
 -- The plain listing of document 01: the state is the ended paths and the waiting groups; each move takes the first waiting group.
-use Rattle.std.specs.Prelude.{ℕ, zero, suc, ◌+◌, ◌*◌, List, [], ◌∷◌, ◌++◌, map}
+use Rattle.std.specs.Prelude.{ℕ, zero, suc, ◌+◌, ◌*◌, List, [], ◌∷◌, ◌++◌, map, Option as Maybe, Some, None}
 use Rattle.std.proofs.Math.Option.{Option, none, some}
 use Rattle.boxes.specs.Boxes.{Box, Interval, ◌⋯◌, from, size}
 use Rattle.riscu.specs.Machine.{reg, fetch}
-use Rattle.riscu.specs.declared.Decoded.{Decoded}
-use Rattle.riscu.specs.declared.Decoded.TheVariants.{Row, NoRow}
+use Rattle.riscu.specs.declared.Instruction.{Instruction}
 use Rattle.listing.specs.Group.{Job, Group, View, view_of}
 use Rattle.listing.specs.Ending.{end_by, needs}
 use Rattle.listing.specs.declared.End.{End}
@@ -35,9 +34,9 @@ abbrev pub later : Group → ℕ → Box → Group
 later g n b = record { box = b; steps = g.steps + 1; used = g.used + n }
 
 -- the groups that take a group's place
-unfoldable pub split_by : Group → View → Decoded → List Group
-split_by g v NoRow = []
-split_by g v (Row i) = map (later g (needs g v i)) (v.pieces_of i)
+unfoldable pub split_by : Group → View → Maybe Instruction → List Group
+split_by g v None = []
+split_by g v (Some i) = map (later g (needs g v i)) (v.pieces_of i)
 
 pub record Progress : Type 0 where
   pub ended : List Path

@@ -5,17 +5,16 @@
 #![tactic(auto)]
 
 ghost use Rattle.std.specs.Prelude.{◌≡◌, cond, eqb};
-ghost use Rattle.riscu.specs.declared.Instruction.TheVariants.{Immediate};
 ghost use Rattle.listing.specs.declared.Sorting.TheVariants.{Operates, Nothing};
 ghost use Rattle.listing.specs.Group.{operand, branch_sorting, sorting_of};
-ghost use Rattle.listing.specs.Numbers.{kind_number, reason_number, reason_word};
+ghost use Rattle.listing.specs.Numbers.{kind_number, reason_word};
 
 use riscu::plain::{Registers, register};
 use riscu::{Condition, Instruction, Operation};
 use words::widen;
 
 // What an instruction works on: a register, or a number of its own.
-#[derive(Clone, Copy)]
+#[derive(Clone, Copy, PartialEq, Eq)]
 pub enum Operand {
     InRegister(usize),
     Constant(u64),
@@ -36,16 +35,17 @@ pub enum Sorting {
     Nothing,
 }
 
-#[derive(Clone, Copy)]
+// Why a path is not followed, by document 01's numbers.
+#[derive(Clone, Copy, PartialEq, Eq)]
 pub enum Reason {
-    BothOpen,
-    DivisorOpen,
-    Quotients,
-    BaseOpen,
-    CallOpen,
+    BothOpen = 1,
+    DivisorOpen = 4,
+    Quotients = 5,
+    BaseOpen = 6,
+    CallOpen = 7,
 }
 
-#[derive(Clone, Copy)]
+#[derive(Clone, Copy, PartialEq, Eq)]
 pub enum End {
     Exit,
     BadPc,
@@ -57,13 +57,43 @@ pub enum End {
     TraceFull,
 }
 
-// The value of an operand.
-pub fn operand_value(o: Operand, registers: &Registers) -> u64
-    ensures { result ≡ operand o registers.now }
-{
-    match o {
-        Operand::InRegister(r) => register(registers, r),
-        Operand::Constant(n) => n,
+impl Operand {
+    // The value in a machine's registers.
+    pub fn value(self, registers: &Registers) -> u64
+        ensures { result ≡ operand self registers.now }
+    {
+        match self {
+            Operand::InRegister(r) => register(registers, r),
+            Operand::Constant(n) => n,
+        }
+    }
+}
+
+impl End {
+    // The number of the kind.
+    pub fn kind_number(self) -> u64
+        ensures { result ≡ kind_number self }
+    {
+        match self {
+            End::Exit => 1,
+            End::BadPc => 3,
+            End::BadWord => 4,
+            End::BadAddress => 5,
+            End::BadCall => 6,
+            End::StepLimit => 7,
+            End::NotFollowed(_) => 8,
+            End::TraceFull => 9,
+        }
+    }
+
+    // The reason's word in a record: 0 unless kind 8.
+    pub fn reason_word(self) -> u64
+        ensures { result ≡ reason_word self }
+    {
+        match self {
+            End::NotFollowed(reason) => reason as u64,
+            _ => 0,
+        }
     }
 }
 
@@ -78,13 +108,6 @@ fn operates(rd: usize, op: Operation, first: Operand, second: Operand) -> Sortin
     }
 }
 
-fn immediate_sorting(op: Operation, rd: usize, rs1: usize, imm: i64) -> Sorting
-    ensures { result ≡ sorting_of (Immediate op rd rs1 imm) }
-{
-    let n = widen(imm);
-    operates(rd, op, Operand::InRegister(rs1), Operand::Constant(n))
-}
-
 fn branch_sorting(on: Condition, first: Operand, second: Operand) -> Sorting
     ensures { result ≡ branch_sorting on first second }
 {
@@ -94,67 +117,21 @@ fn branch_sorting(on: Condition, first: Operand, second: Operand) -> Sorting
 }
 
 // What an instruction sorts by.
+#[tactic(auto, using(words::proofs::Signs::widen_held), unfolding(crate::specs::Group::sorting_of))]
 pub fn sorting_of(i: Instruction) -> Sorting
     ensures { result ≡ sorting_of i }
 {
     match i {
-        Instruction::Lui { rd, imm } => Sorting::Nothing,
-        Instruction::Immediate { op, rd, rs1, imm } => immediate_sorting(op, rd, rs1, imm),
+        Instruction::Immediate { op, rd, rs1, imm } => {
+            let n = widen(imm);
+            operates(rd, op, Operand::InRegister(rs1), Operand::Constant(n))
+        }
         Instruction::Register { op, rd, rs1, rs2 } => {
             operates(rd, op, Operand::InRegister(rs1), Operand::InRegister(rs2))
         }
-        Instruction::Ld { rd, rs1, imm } => Sorting::Nothing,
-        Instruction::Sd { rs1, rs2, imm } => Sorting::Nothing,
-        Instruction::Branch { on, rs1, rs2, imm } => {
+        Instruction::Branch { on, rs1, rs2, .. } => {
             branch_sorting(on, Operand::InRegister(rs1), Operand::InRegister(rs2))
         }
-        Instruction::Jal { rd, imm } => Sorting::Nothing,
-        Instruction::Jalr { rd, rs1, imm } => Sorting::Nothing,
-        Instruction::Ecall => Sorting::Nothing,
-    }
-}
-
-// The number of a kind.
-pub fn kind_number(e: End) -> u64
-    ensures { result ≡ kind_number e }
-{
-    match e {
-        End::Exit => 1,
-        End::BadPc => 3,
-        End::BadWord => 4,
-        End::BadAddress => 5,
-        End::BadCall => 6,
-        End::StepLimit => 7,
-        End::NotFollowed(_) => 8,
-        End::TraceFull => 9,
-    }
-}
-
-// The number of a reason.
-fn reason_number(r: Reason) -> u64
-    ensures { result ≡ reason_number r }
-{
-    match r {
-        Reason::BothOpen => 1,
-        Reason::DivisorOpen => 4,
-        Reason::Quotients => 5,
-        Reason::BaseOpen => 6,
-        Reason::CallOpen => 7,
-    }
-}
-
-// The reason's word in a record: 0 unless kind 8.
-pub fn reason_word(e: End) -> u64
-    ensures { result ≡ reason_word e }
-{
-    match e {
-        End::NotFollowed(r) => reason_number(r),
-        End::Exit => 0,
-        End::BadPc => 0,
-        End::BadWord => 0,
-        End::BadAddress => 0,
-        End::BadCall => 0,
-        End::StepLimit => 0,
-        End::TraceFull => 0,
+        _ => Sorting::Nothing,
     }
 }

@@ -10,10 +10,11 @@ use Rattle.boxes.specs.Working.Cuts.{OneInput}
 use Rattle.boxes.proofs.Choices.{lows_inside, highs_inside}
 use Rattle.riscu.specs.Machine.{State, fetch, run, step}
 use Rattle.riscu.specs.declared.Instruction.{Instruction}
-use Rattle.riscu.specs.declared.Decoded.TheVariants.{Row}
+use Rattle.std.specs.Prelude.{Some}
 use Rattle.listing.specs.Group.{Job, after, class_of}
-use Rattle.lockstep.specs.Working.LockStep.{Pair, Machines, both, advanced, advanced_by, lock_steps, starting, Hangs, AtCorners}
+use Rattle.lockstep.specs.Working.LockStep.{Pair, both, advanced, advanced_by, lock_steps, starting, Hangs, AtCorners}
 use Rattle.lockstep.specs.declared.Corners.{Corners}
+use Rattle.lockstep.specs.declared.Machines.{Machines}
 use Rattle.corners.specs.Working.Smooth.{Settled, Smooth}
 use Rattle.corners.specs.Working.Good.{Sound}
 use Rattle.corners.specs.Working.Tags.{tags_at}
@@ -43,11 +44,11 @@ module _ (j : Job) (b : Box) (sound : Sound j b) where
         tags = rw (a.low, a.high) (uniform_step j b sound n s a.tags);
       }
 
-  smooth_fetch : {n : ℕ} {p : Pair} (s : Smooth j b n) → AtCorners j b n p → fetch j.code p.low.pc ≡ Row s.instruction
+  smooth_fetch : {n : ℕ} {p : Pair} (s : Smooth j b n) → AtCorners j b n p → fetch j.code p.low.pc ≡ Some s.instruction
   smooth_fetch s a = ap (λ (t : State). fetch j.code t.pc) a.low ∙ s.followed.fetched (lows b) low_in
 
   -- one straight step, where the low corner is at instruction i
-  pub advanced_at : {n : ℕ} {i : Instruction} {p : Pair} → Smooth j b n → fetch j.code p.low.pc ≡ Row i → AtCorners j b n p
+  pub advanced_at : {n : ℕ} {i : Instruction} {p : Pair} → Smooth j b n → fetch j.code p.low.pc ≡ Some i → AtCorners j b n p
       → AtCorners j b (n + 1) (advanced (lows b) (highs b) i p)
   advanced_at {n} {i} {p} s f a =
       let e : s.instruction ≡ i = cc (f, smooth_fetch s a) in

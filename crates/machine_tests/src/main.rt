@@ -3,17 +3,16 @@
 // Prints each line that differs, how many cases each instruction has, and the sum.
 #![tactic(auto)]
 
-use input::{ROOM, read_full};
 use riscu::At;
 use riscu::plain::{Machine, put, register, store};
 use runs::running::proceed;
-use std::io;
-use vectors::{differs, line_end, number_at};
+use std::{array, io};
+use vectors::{Fields, Lines, Tally, run_table};
 
 // How many bytes a name has, with the spaces after it.
 const NAME: usize = 5;
 
-// What a line says: the machine before, the steps to run, what must hold then, and the place of the code.
+// What a line says: the machine before, the steps to run, what must hold then, and the code.
 #[derive(Drop)]
 struct Case {
     a: u64,
@@ -24,48 +23,27 @@ struct Case {
     register: u64,
     value: u64,
     pc: u64,
-    code: usize,
+    code: [u32; 16],
 }
 
+// Past the line's end the words of the code are 0, which is no instruction.
 fn case_of(line: &[u8]) -> Case {
-    let a = number_at(line, NAME);
-    let b = number_at(line, a.next);
-    let address = number_at(line, b.next);
-    let word = number_at(line, address.next);
-    let steps = number_at(line, word.next);
-    let register = number_at(line, steps.next);
-    let value = number_at(line, register.next);
-    let pc = number_at(line, value.next);
+    let mut fields = Fields::new(line.get(NAME..).unwrap_or(&[]));
     Case {
-        a: a.value,
-        b: b.value,
-        address: address.value,
-        word: word.value,
-        steps: steps.value,
-        register: register.value,
-        value: value.value,
-        pc: pc.value,
-        code: pc.next,
+        a: fields.number(),
+        b: fields.number(),
+        address: fields.number(),
+        word: fields.number(),
+        steps: fields.number(),
+        register: fields.number(),
+        value: fields.number(),
+        pc: fields.number(),
+        code: array::from_fn(|_| fields.word()),
     }
-}
-
-// The words from a place on; past the line's end they are 0, which is no instruction.
-fn code_of(line: &[u8], from: usize) -> [u32; 16] {
-    let mut code = [0u32; 16];
-    let mut at = from;
-    let mut k: usize = 0;
-    while k < 16 {
-        let n = number_at(line, at);
-        code[k] = (n.value % 4294967296) as u32;
-        at = n.next;
-        k += 1;
-    }
-    code
 }
 
 fn agrees(line: &[u8]) -> bool {
     let c = case_of(line);
-    let code = code_of(line, c.code);
     let first = Machine::start();
     let mut registers = first.registers;
     let mut memory = [0u64; 512];
@@ -75,77 +53,39 @@ fn agrees(line: &[u8]) -> bool {
     let inputs = [0u64; 1];
     let steps = c.steps as usize;
     let from = At { pc: 0, reads: 0 };
-    let at = proceed(&code, &inputs, steps, &mut registers, &mut memory, from);
+    let at = proceed(&c.code, &inputs, steps, &mut registers, &mut memory, from);
     let r = c.register as usize;
     // A line with no steps tests nothing.
-    (0 < c.steps) & (register(&registers, r) == c.value) & (at.pc == c.pc)
+    0 < c.steps && register(&registers, r) == c.value && at.pc == c.pc
 }
 
-// Whether the names at two places are the same.
-fn same_name(text: &[u8], a: usize, b: usize) -> bool {
-    let n = text.len();
-    if n < NAME {
-        return false;
-    }
-    if n - NAME < a {
-        return false;
-    }
-    if n - NAME < b {
-        return false;
-    }
-    let mut k: usize = 0;
-    while k < NAME {
-        if text[a + k] != text[b + k] {
-            return false;
-        }
-        k += 1;
-    }
-    true
-}
-
-fn print_count(rt: &impl Print, text: &[u8], name: usize, count: u64) -> io::Result<()> {
-    let n = text.len();
-    if n < NAME {
+// Prints how many cases stand under a name; a line without one has none.
+fn print_count(rt: &impl Print, name: Option<&[u8]>, count: u64) -> io::Result<()> {
+    let Some(name) = name else {
         return Ok(());
-    }
-    if n - NAME < name {
-        return Ok(());
-    }
-    rt.write_all(&text[name..name + NAME])?;
+    };
+    rt.write_all(name)?;
     println!(rt; "{count}")
 }
 
-fn print_sum(rt: &impl Print, cases: u64, differ: u64) -> io::Result<()> {
-    println!(rt; "{cases} cases, {differ} differ")
-}
-
+// The lines of one name stand one after another.
 fn run_all(rt: &impl Print, text: &[u8]) -> io::Result<()> {
-    let mut cases: u64 = 0;
-    let mut differ: u64 = 0;
-    let mut name: usize = 0;
+    let mut tally = Tally::new();
+    let mut name = text.get(..NAME);
     let mut before: u64 = 0;
-    let mut at: usize = 0;
-    while at < text.len() {
-        if !same_name(text, name, at) {
-            print_count(rt, text, name, cases - before)?;
-            name = at;
-            before = cases;
+    for line in Lines::new(text) {
+        if line.get(..NAME) != name {
+            print_count(rt, name, tally.lines - before)?;
+            name = line.get(..NAME);
+            before = tally.lines;
         }
-        let end = line_end(text, at);
-        cases += 1;
-        differ += differs(rt, agrees(&text[at..end]), cases);
-        at = if end < text.len() { end + 1 } else { end };
+        tally.add(rt, agrees(line));
     }
-    print_count(rt, text, name, cases - before)?;
-    print_sum(rt, cases, differ)
+    print_count(rt, name, tally.lines - before)?;
+    println!(rt; "{} cases, {} differ", tally.lines, tally.differ)
 }
 
 // A read or a write that fails ends it with that error.
 fn main(rt: HostRuntime) -> io::Result<()> {
-    let mut buffer = [0u8; ROOM];
-    let n = read_full(&mut rt.stdin(), &mut buffer)?;
-    if n == ROOM {
-        return println!(rt; "more input than the buffer holds");
-    }
-    run_all(&rt, &buffer[..n])
+    run_table(&rt, |text| run_all(&rt, text))
 }

@@ -10,7 +10,7 @@ use Rattle.calls.specs.Border.{refused_number, reply_of}
 use Rattle.calls.specs.Call.{Call, questions, refusal_of, reply_to, called}
 use Rattle.calls.specs.Done.{refusal_from}
 use Rattle.calls.specs.Refuses.{TellsNo}
-use Rattle.calls.specs.declared.Completion.TheVariants.{Done}
+use Rattle.std.specs.Prelude.{Ok}
 use Rattle.calls.proofs.Done.{done_refusal, left_done}
 use Rattle.calls.proofs.Numbers.{tells_no}
 use Rattle.demands.proofs.Refuses.{reply_refusal}
@@ -50,7 +50,7 @@ module _ (n : ℕ) (report : List ℕ) (passes : readable n report ≡ true) (le
   bytes_seen = bytes_known n report (readable_inputs n report passes).1 lent
 
   pub bytes_enough : (sheet : List ℕ) → sheet_bytes n (length report) ≤ length sheet
-      → (printed (sheet_call_of n report sheet)).answer ≡ Done (sheet_length n (length report))
+      → (printed (sheet_call_of n report sheet)).answer ≡ Ok (sheet_length n (length report))
   bytes_enough sheet room =
       let c : SheetCall = sheet_call_of n report sheet in
       let yes = both_yes c passes (omega (arith, room, bytes_seen, text_length n report)) in

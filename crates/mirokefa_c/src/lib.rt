@@ -13,7 +13,7 @@ ghost use Rattle.serving.specs.Served.{served_on};
 ghost use Rattle.sheets.specs.Sheet.{sheet_bytes, printed_on};
 ghost use Rattle.writing.specs.Write.{values_lent, write_outcome, job_written_on};
 
-use calls::{Outcome, completion_number, reply};
+use calls::{Outcome, completion_number};
 use counting::Counted;
 use counting::counting::count;
 use engine::explore;
@@ -21,8 +21,8 @@ use reports::placing::place;
 use serving::serve;
 use sheets::asking::sheet_bytes;
 use sheets::sheet::print_sheet;
+use writing::WriteOutcome;
 use writing::writing::write_job;
-use writing::{WriteOutcome, write_outcome};
 
 // Explores a job and writes a page of its paths, or refuses the call.
 #[unsafe(no_mangle)]
@@ -40,7 +40,7 @@ pub extern "C" fn mirokefa_explore(
     ensures words { table.new ≡ (called_on memory table (call_lent code intervals limit report first)).table }
 {
     let a = explore(code, memory, intervals, limit, table, report, first);
-    reply(a)
+    Outcome::from(a)
 }
 
 // The server's call: job blocks in, a report out.
@@ -50,7 +50,7 @@ pub extern "C" fn mirokefa_serve(job: &[u8], report: &mut [u8]) -> Outcome
     ensures bytes { report.new ≡ (served_on job report).report }
 {
     let a = serve(job, report);
-    reply(a)
+    Outcome::from(a)
 }
 
 // Which path of a report does each row take?
@@ -108,5 +108,5 @@ pub extern "C" fn mirokefa_write(
     ensures bytes { job.new ≡ (job_written_on (values_lent code memory intervals limit first) job).list }
 {
     let a = write_job(code, memory, intervals, limit, first, job);
-    write_outcome(a)
+    WriteOutcome::from(a)
 }

@@ -5,13 +5,11 @@
 
 ghost use Rattle.std.specs.Prelude.{◌≡◌, ◌+◌, ◌-◌, ◌*◌, ◌≤◌, ◌<◌, length};
 ghost use Rattle.blocks.specs.Record.{most_inputs, record_bytes};
-ghost use Rattle.pages.specs.Working.Page.{leasts, greatests, ended_path, page_with, filled};
+ghost use Rattle.blocks.specs.Working.Writing.{path_in};
+ghost use Rattle.pages.specs.Working.Page.{leasts, greatests, page_with, filled};
 
 use blocks::record::{Ended, put_path};
 use blocks::report::record_bytes;
-use decide::classes::{greatest, least};
-use listing::End;
-use riscu::At;
 use riscu::plain::{Registers, register};
 
 // The numbers of the paths that a page has places for: from the first wanted to below the end.
@@ -32,51 +30,37 @@ fn bounds(low: &Registers, high: &Registers) -> Extremes
     ensures lesser_value { result.lesser ≡ leasts low.now high.now }
     ensures greater_value { result.greater ≡ greatests low.now high.now }
 {
-    let mut lesser = [0u64; 32];
-    let mut greater = [0u64; 32];
-    let mut k: usize = 0;
-    while k < 32 {
-        let a = register(low, k);
-        let b = register(high, k);
-        lesser[k] = least(a, b);
-        greater[k] = greatest(a, b);
-        k += 1;
+    let mut lesser = [0; 32];
+    let mut greater = [0; 32];
+    // by array::from_fn the proof did not close: no clause says that its closure holds the same corners at each call
+    for r in 0..32 {
+        let (a, b) = (register(low, r), register(high, r));
+        lesser[r] = a.min(b);
+        greater[r] = a.max(b);
     }
     Extremes { lesser, greater }
 }
 
-// Writes the path of that number, which ends here, where the page begins at or before it; `at` is where the low corner is.
+// Writes the path that ends here, where the page begins at or before it.
 pub fn write_path(
     report: &mut [u8],
     window: Window,
-    number: u64,
-    end: End,
-    steps: usize,
-    at: At,
+    p: Ended,
     lows: &[u64],
     highs: &[u64],
     low: &Registers,
     high: &Registers,
 )
     requires lows_len_bound { (length lows.now ≤ most_inputs) × (length lows.now ≡ length highs.now) }
-    requires lows_in_bounds { filled (length lows.now) window number + record_bytes (length lows.now) ≤ length report.old }
-    ensures { let p = ended_path lows.now highs.now low.now high.now at steps end in
-        report.new ≡ page_with window number p report.old }
+    requires lows_in_bounds { filled (length lows.now) window p.number + record_bytes (length lows.now) ≤ length report.old }
+    ensures { let path = path_in p lows.now highs.now (leasts low.now high.now) (greatests low.now high.now) in
+        report.new ≡ page_with window p.number path report.old }
 {
-    if number < window.first {
+    if p.number < window.first {
         return;
     }
-    let e = bounds(low, high);
-    let lesser = e.lesser;
-    let greater = e.greater;
-    let place = (number - window.first) as usize;
+    let Extremes { lesser, greater } = bounds(low, high);
+    let place = (p.number - window.first) as usize;
     let offset = record_bytes(lows.len()) * place;
-    let p = Ended {
-        number,
-        end,
-        pc: at.pc,
-        steps: steps as u64,
-        reads: at.reads as u64,
-    };
     put_path(report, offset, p, lows, highs, &lesser, &greater);
 }

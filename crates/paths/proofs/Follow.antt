@@ -8,7 +8,7 @@ use native.Mathlib.Omega.{arith}
 use native.Mathlib.Decide.{dec_le}
 use Rattle.boxes.specs.Boxes.{Choice, Box, Inside, ◌∈◌}
 use Rattle.boxes.proofs.Partition.{piece_is}
-use Rattle.riscu.specs.declared.Decoded.TheVariants.{Row}
+use Rattle.std.specs.Prelude.{Some}
 use Rattle.listing.specs.Group.{Job, Group, view_of}
 use Rattle.listing.specs.Ending.{needs, end_of}
 use Rattle.listing.specs.Listing.{Path, whole, later, path_of, split_by, enough, listing}
@@ -31,7 +31,7 @@ module _ (j : Job) (g : Group) (good : Good j g) (k : Continues j g) (led : Lead
       rw (led.here_now c w, k.goes_on, k.fetched)
       (ap (later g (needs g (view_of j g) k.instruction)) (sym (piece_is g.box (partition j g good k) q m c h)))
 
-  pub piece_leads : (x : Group) → x ∈ split_by g (view_of j g) (Row k.instruction) → Leads j x
+  pub piece_leads : (x : Group) → x ∈ split_by g (view_of j g) (Some k.instruction) → Leads j x
   piece_leads x m =
       let (q, r, e) = split_mem g (view_of j g) k.instruction m in
       let within = (partition j g good k).within q r in

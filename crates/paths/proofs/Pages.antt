@@ -12,7 +12,7 @@ use lib.ListN.{length, length-append, length-map}
 use Rattle.boxes.specs.Boxes.{lows, ◌∈◌}
 use Rattle.boxes.proofs.Places.{nonempty}
 use Rattle.boxes.proofs.Choices.{lows_inside}
-use Rattle.riscu.specs.declared.Decoded.TheVariants.{Row}
+use Rattle.std.specs.Prelude.{Some}
 use Rattle.listing.specs.Group.{Job, Group, view_of}
 use Rattle.listing.specs.Ending.{end_of}
 use Rattle.listing.specs.Listing.{Path, Progress, progress, split_by, move_by, move_from, moves, enough, listing}
@@ -39,7 +39,7 @@ further_trans {s} f g =
       count = omega arith;
     }
 
-split_some : (j : Job) (g : Group) → Good j g → (k : Continues j g) → 0 < length (split_by g (view_of j g) (Row k.instruction))
+split_some : (j : Job) (g : Group) → Good j g → (k : Continues j g) → 0 < length (split_by g (view_of j g) (Some k.instruction))
 unfolding split_by
 split_some j g good k =
     let (q, m, i) = (partition j g good k).cover (lows g.box) (lows_inside g.box good.sound.proper) in

@@ -20,8 +20,7 @@ use Rattle.riscu.specs.declared.Operation.{Operation}
 use Rattle.riscu.specs.declared.Operation.TheVariants.{Add, Sub, Mul, Divu, Remu, Sltu}
 use Rattle.riscu.specs.declared.Instruction.{Instruction}
 use Rattle.riscu.specs.declared.Instruction.TheVariants.{Lui, Immediate, Register, Ld, Sd, Branch, Jal, Jalr, Ecall}
-use Rattle.riscu.specs.declared.Decoded.{Decoded}
-use Rattle.riscu.specs.declared.Decoded.TheVariants.{Row, NoRow}
+use Rattle.std.specs.Prelude.{Option, Some, None}
 use Rattle.listing.specs.Group.{Job, Group, after, sort_of, sorting_of, operand, View, view_of}
 use Rattle.listing.specs.Ending.{Point, ◌⇒◌, first, last_address, bad_address, open_at, value_at, bad_access, operand_open, both_open, two_open}
 use Rattle.listing.specs.Ending.{far_apart, operation_points, operand_points, address_points, points, needs, end_at, end_by, end_of}
@@ -146,12 +145,12 @@ module _ (j : Job) (g : Group) (c : Choice) (m : Inside c g.box) where
       ((good_uniform j g good).pc (lows g.box) c (lows_inside g.box good.sound.proper) m)
       (go (eqb g.steps j.limit) (bad_pc j.code v.pc) (fetch j.code v.pc) d)
     where
-      go : (l b : Bool) (i : Decoded) → cond l (some StepLimit) (cond b (some BadPc) (end_at j g v i)) ≡ some e
+      go : (l b : Bool) (i : Option Instruction) → cond l (some StepLimit) (cond b (some BadPc) (end_at j g v i)) ≡ some e
           → cond b (some BadPc) (stop_decoded i state) ≡ some e
       go true b i d = let z : StepLimit ≡ e = cc in absurd (omega (arith, ap kind_number z))
       go false true i d = d
-      go false false NoRow d = d
-      go false false (Row i) d = (points_stop i (ltb (j.entries - g.used) (needs g v i))).stops_by e k d
+      go false false None d = d
+      go false false (Some i) d = (points_stop i (ltb (j.entries - g.used) (needs g v i))).stops_by e k d
 
 -- an instruction that the machine completes does not stop it
 
@@ -186,17 +185,17 @@ module _ (s : State) where
   completes_goes_on (Jalr rd rs1 imm) h = operands_go_on _
   completes_goes_on Ecall h = rw (h.0, h.1, h.2, good_address (reg 11 s) h.3) (operands_go_on Nothing)
 
-fetched_goes_on : (code : List ℕ) (s : State) {i : Instruction} → fetch code s.pc ≡ Row i → first (points (view_of_one s) i) ≡ none
+fetched_goes_on : (code : List ℕ) (s : State) {i : Instruction} → fetch code s.pc ≡ Some i → first (points (view_of_one s) i) ≡ none
     → stop_of code s ≡ none
 unfolding fetch stop_of stop_decoded
 fetched_goes_on code s {i} e h = go (bad_pc code s.pc) (decode_of (get_or code (s.pc / 4) 0)) e
   where
-    go : (t : Bool) (d : Decoded) → cond t NoRow d ≡ Row i → cond t (some BadPc) (stop_decoded (cond t NoRow d) s) ≡ none
+    go : (t : Bool) (d : Option Instruction) → cond t None d ≡ Some i → cond t (some BadPc) (stop_decoded (cond t None d) s) ≡ none
     go false d e = rw e h
     go true d e = let z : ◌≡◌ {A = ℕ} 0 1 = cc in absurd (omega arith)
 
 -- the machine stops at no operation, division by 0 included (document 02, No. 3)
-pub operation_completes : (code : List ℕ) (s : State) (op : Operation) (rd q r : ℕ) → fetch code s.pc ≡ Row (Register op rd q r)
+pub operation_completes : (code : List ℕ) (s : State) (op : Operation) (rd q r : ℕ) → fetch code s.pc ≡ Some (Register op rd q r)
     → stop_of code s ≡ none
 operation_completes code s op rd q r e = fetched_goes_on code s e (completes_goes_on s (Register op rd q r) tt)
 
@@ -249,7 +248,7 @@ pub stop_kinds : (code : List ℕ) (s : State) (e : End) → stop_of code s ≡ 
 unfolding stop_of stop_decoded
 stop_kinds code s e d = go (bad_pc code s.pc) (fetch code s.pc) d
   where
-    go : (t : Bool) (i : Decoded) → cond t (some BadPc) (stop_decoded i s) ≡ some e → kind_number e ≤ 6
+    go : (t : Bool) (i : Option Instruction) → cond t (some BadPc) (stop_decoded i s) ≡ some e → kind_number e ≤ 6
     go true i d = let z : BadPc ≡ e = cc in omega (arith, ap kind_number z)
-    go false NoRow d = let z : BadWord ≡ e = cc in omega (arith, ap kind_number z)
-    go false (Row i) d = (points_of_machine s i).kind e d
+    go false None d = let z : BadWord ≡ e = cc in omega (arith, ap kind_number z)
+    go false (Some i) d = (points_of_machine s i).kind e d

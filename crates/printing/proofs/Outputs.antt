@@ -1,6 +1,6 @@
 -- Texts written one behind the other, and what a whole text leaves of a slice.
 -- Assumes nothing.
-use mathlib.Core.Path.{◌≡◌, refl, ap, ◌∙◌}
+use mathlib.Core.Path.{◌≡◌, refl, sym, ap, ◌∙◌}
 use mathlib.Core.List.{List, [], ◌∷◌, ◌++◌, map, flat_map}
 use Prim.Native.Nat.{ℕ, suc, ◌+◌, ◌-◌, ◌<◌, ◌≤◌, min}
 use native.Mathlib.Nat.{add-zero}
@@ -8,8 +8,11 @@ use native.Mathlib.Omega.{arith}
 use native.Mathlib.Numerals.{add-one}
 use borrow.Author.Tests.{lt-ltb, le-ltb, ltb-true, ltb-false}
 use lib.Dec.{ltb}
-use lib.ListN.{length, get_or, set, take, drop, length-set, take-append-drop, drop_of_length-le}
-use lib.Seq.{take_all, take-nil, drop-cons, take-suc-set, drop-set-lt, append_snoc}
+use borrow.Rule.Slice.PartMut.{put_mid}
+use lib.ListN.{length, set, take, drop, length-set, take-append-drop, drop_of_length-le}
+use Rattle.std.proofs.Common.{drop-drop}
+use lib.Seq.{take_all, take-nil, take-suc-set, drop-set-lt, append_snoc}
+use Rattle.std.proofs.lemmas.List.{take_min}
 use Rattle.boxes.specs.Boxes.{from}
 use Rattle.boxes.proofs.Lists.{by_test}
 use Rattle.printing.specs.Output.{fitted, fitting}
@@ -35,16 +38,6 @@ write_one s b = refl
 -- one text, and then another
 pub then : (s : Output) {t u : Output} (xs ys : List ℕ) → t ≡ write s xs → u ≡ write t ys → u ≡ write s (xs ++ ys)
 then s xs ys e f = rw (write_append s xs ys, ← e) f
-
--- a text byte by byte
-module _ (s : Output) (text : List ℕ) (i : ℕ) where
-  pub text_turn : {t : Output} → i < length text → t ≡ push s (get_or text i 0) → write t (drop (i + 1) text) ≡ write s (drop i text)
-  unfolding write
-  text_turn h e = rw (e, add-one, drop-cons text i 0 h)
-
-  pub text_done : length text ≤ i → s ≡ write s (drop i text)
-  unfolding write
-  text_done h = rw (drop_of_length-le text h)
 
 -- the texts of a list's elements, by what the elements are made of
 pub flat_map_lem : {A B C : Type 0} (f : B → List C) (g : A → B) (l : List A) → flat_map f (map g l) ≡ flat_map (λ (x : A). f (g x)) l
@@ -91,6 +84,29 @@ write_from l at (x ∷ xs) h =
     rw (← push_fits l at x i) (write_from (set l at x) (at + 1) xs (rw length-set (omega arith)) ∙ left_fits l at x xs i))
     (λ e. let i = ltb-false at (length l) e in
     rw (← push_full l at x i) (write_from l at xs h ∙ left_full l at x xs i))
+
+-- nothing, behind the end
+pub write_full : (l : List ℕ) (at : ℕ) (xs : List ℕ) → length l ≤ at → output l at ≡ write (output l at) xs
+unfolding write
+write_full l at [] h = refl
+write_full l at (x ∷ xs) h = rw (← push_full l at x h) (write_full l at xs h)
+
+-- as many bytes as fit, copied at once
+rest_copied : (l text : List ℕ) (at n : ℕ) → at ≤ length l → n ≡ min (length text) (length l - at) → drop n (drop at l) ≡ drop (at + length text) l
+rest_copied l text at n h m =
+    drop-drop n at l
+    ∙ by_test (ltb (length text) (length l - at))
+    (λ t. let f = ltb-true (length text) (length l - at) t in let z : n ≡ length text = omega arith in ap (λ (k : ℕ). drop (at + k) l) z)
+    (λ t. let f = ltb-false (length text) (length l - at) t in
+    drop_of_length-le l {i = at + n} (omega arith) ∙ sym (drop_of_length-le l {i = at + length text} (omega arith)))
+
+pub write_copied : (l text : List ℕ) (at n : ℕ) {ys : List ℕ} → at ≤ length l → n ≡ min (length text) (length l - at) → ys ≡ take n text
+    → output (put_mid at (at + n - at) l ys) (at + n) ≡ write (output l at) text
+write_copied l text at n h m e =
+    let k : at + n - at ≡ n = omega arith in
+    let u : at + n ≡ min (at + length text) (length l) = omega arith in
+    let z : n ≡ min (length l - at) (length text) = omega arith in
+    rw (k, e, rest_copied l text at n h m, u, z, take_min) (sym (write_from l at text h))
 
 -- a whole text
 pub write_all : (text l : List ℕ) {out : List ℕ} {n : ℕ} → output out n ≡ write (output l 0) text → (out ≡ fitted text l) × (n ≡ fitting text l)

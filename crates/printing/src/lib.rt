@@ -10,7 +10,6 @@ ghost use Rattle.printing.specs.Working.Writing.{Prints};
 
 use crate::lines::put_lines;
 use crate::writer::{put_field, put_text};
-use calls::yes_number;
 
 mod lines;
 pub mod writer;
@@ -36,7 +35,7 @@ pub fn print_listing(
     ensures { Prints out result (listing_text inputs count more report.now) }
 {
     let mut p = put_field(out, 0, b"paths ", count as u64);
-    p = put_field(out, p, b" more ", yes_number(more));
+    p = put_field(out, p, b" more ", u64::from(more));
     p = put_text(out, p, b"\n");
     put_lines(report, inputs, count, out, p)
 }

@@ -11,18 +11,21 @@ use crate::writer::{put_field, put_range, put_text};
 use blocks::layout::{EXIT_HIGH, EXIT_LOW, KIND, NUMBER, PC, REASON, STEPS};
 use blocks::report::{input_high, input_low, record_word};
 
+// Kinds of ends, as a record's word says them.
+const EXIT: u64 = 1;
+
+const NOT_FOLLOWED: u64 = 8;
+
 // The intervals of a record's inputs.
 fn put_inputs(report: &[u8], inputs: usize, k: usize, out: &mut [u8], at: usize) -> usize
     requires { (k < records_in inputs report.now) × (inputs ≤ most_inputs) }
     ensures { Writes out at result (flat_map input_text (said_at inputs report.now k).box) }
 {
     let mut p = at;
-    let mut i: usize = 0;
-    while i < inputs {
+    for i in 0..inputs {
         let low = input_low(report, inputs, k, i);
         let high = input_high(report, inputs, k, i);
         p = put_range(out, p, b" in ", low, high);
-        i += 1;
     }
     p
 }
@@ -32,17 +35,15 @@ fn put_ending(report: &[u8], inputs: usize, k: usize, out: &mut [u8], at: usize)
     requires { k < records_in inputs report.now }
     ensures { Writes out at result (ending (said_at inputs report.now k)) }
 {
-    let kind = record_word(report, inputs, k, KIND);
-    if kind == 1 {
-        let low = record_word(report, inputs, k, EXIT_LOW);
-        let high = record_word(report, inputs, k, EXIT_HIGH);
-        return put_range(out, at, b" exit ", low, high);
+    match record_word(report, inputs, k, KIND) {
+        EXIT => {
+            let low = record_word(report, inputs, k, EXIT_LOW);
+            let high = record_word(report, inputs, k, EXIT_HIGH);
+            put_range(out, at, b" exit ", low, high)
+        }
+        NOT_FOLLOWED => put_field(out, at, b" reason ", record_word(report, inputs, k, REASON)),
+        _ => at,
     }
-    if kind == 8 {
-        let reason = record_word(report, inputs, k, REASON);
-        return put_field(out, at, b" reason ", reason);
-    }
-    at
 }
 
 // The line of a record.
@@ -71,10 +72,8 @@ pub(crate) fn put_lines(
     ensures { Writes out at result (flat_map line (first_said inputs count report.now)) }
 {
     let mut p = at;
-    let mut k: usize = 0;
-    while k < count {
+    for k in 0..count {
         p = put_line(report, inputs, k, out, p);
-        k += 1;
     }
     p
 }

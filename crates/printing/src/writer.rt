@@ -1,5 +1,5 @@
 // Texts and numbers on a lent slice: each function writes from `at` on, as far as it fits, and answers where the next byte goes.
-ghost use Rattle.std.specs.Prelude.{◌≡◌, ◌+◌, ◌≤◌, length};
+ghost use Rattle.std.specs.Prelude.{◌≡◌};
 ghost use Rattle.printing.specs.Printed.{digits, field, range};
 ghost use Rattle.printing.specs.Working.Writing.{output, push, Writes};
 
@@ -14,42 +14,16 @@ fn put_byte(out: &mut [u8], at: usize, b: u8) -> usize
     at
 }
 
-// A text that fits: no byte is asked for room by itself.
-fn put_whole(out: &mut [u8], at: usize, text: &[u8]) -> usize
-    requires { at + length text.now ≤ length out.old }
-    ensures { Writes out at result text.now }
-{
-    let mut i: usize = 0;
-    while i < text.len() {
-        out[at + i] = text[i];
-        i += 1;
-    }
-    at + i
-}
-
 // A text, as far as it fits.
-fn put_part(out: &mut [u8], at: usize, text: &[u8]) -> usize
-    ensures { Writes out at result text.now }
-{
-    let mut p = at;
-    let mut i: usize = 0;
-    while i < text.len() {
-        p = put_byte(out, p, text[i]);
-        i += 1;
-    }
-    p
-}
-
-// A text.
 pub fn put_text(out: &mut [u8], at: usize, text: &[u8]) -> usize
     ensures { Writes out at result text.now }
 {
-    if at <= out.len() {
-        if text.len() <= out.len() - at {
-            return put_whole(out, at, text);
-        }
+    if out.len() <= at {
+        return at;
     }
-    put_part(out, at, text)
+    let n = text.len().min(out.len() - at);
+    out[at..at + n].copy_from_slice(&text[..n]);
+    at + n
 }
 
 // A number in base ten: at most 20 calls deep, since MAX has 20 digits.
@@ -57,10 +31,10 @@ fn put_digits(out: &mut [u8], at: usize, n: u64) -> usize
     ensures { Writes out at result (digits n) }
 {
     if n < 10 {
-        return put_byte(out, at, 48 + n as u8);
+        return put_byte(out, at, b'0' + n as u8);
     }
     let p = put_digits(out, at, n / 10);
-    put_byte(out, p, 48 + (n % 10) as u8)
+    put_byte(out, p, b'0' + (n % 10) as u8)
 }
 
 // A name and a number.

@@ -26,7 +26,7 @@ use Rattle.calls.specs.Complete.{IsPath, Complete}
 use Rattle.calls.specs.Engine.{Engine, Lent, Leaves, Meets, Exchange, History, over, made}
 use Rattle.calls.specs.Done.{DoneLeft}
 use Rattle.calls.specs.Together.{SameJob, last, is_accepted, bytes_written}
-use Rattle.calls.specs.declared.Completion.TheVariants.{Done}
+use Rattle.std.specs.Prelude.{Ok}
 use Rattle.calls.proofs.Done.{left_done}
 use Rattle.demands.proofs.Accepted.{path_inputs, paths_fit_lem}
 use Rattle.demands.proofs.Complete.{listing_complete}
@@ -175,7 +175,7 @@ module _ (E : Engine) (meets : Meets E) {memory table : List ℕ} {xs : List Exc
       row : ℕ → List ℕ
       row k = row_at n rows k
 
-      a : (placed call).answer ≡ Done (rows_in n rows)
+      a : (placed call).answer ≡ Ok (rows_in n rows)
       a = ap (λ (l : DoneLeft). l.answer) (left_done (place_questions call) (place_deed call) (both_yes call own_readable fit))
 
       same : (r : List ℕ) → placing (all_said n report) r ≡ placing (all_said (length j.box) (records 0 (listing j))) r

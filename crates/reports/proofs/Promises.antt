@@ -17,7 +17,7 @@ use Rattle.listing.proofs.First.{first_none}
 use Rattle.blocks.specs.Record.{most_inputs}
 use Rattle.calls.specs.Questions.{inputs_fit}
 use Rattle.calls.specs.Done.{done_left, Completes}
-use Rattle.calls.specs.declared.Completion.TheVariants.{Done}
+use Rattle.std.specs.Prelude.{Ok}
 use Rattle.calls.proofs.Done.{left_done, completes}
 use Rattle.reports.specs.Readable.{all_said, readable}
 use Rattle.reports.specs.Placing.{rows_in, row_at, placing, placings, most_rows, PlaceCall, rows_fit, place_questions, place_deed, placed}
@@ -59,13 +59,13 @@ module _ (c : PlaceCall) where
   placings_length = ap length (placings_are c.inputs c.report c.rows) ∙ length-map (from 0 count) answer_at ∙ length_from count 0
 
   -- the answer is how many placings it wrote
-  pub left_placed : {l : List ℕ} → first (place_questions c) ≡ none → l ≡ placings c.inputs c.report c.rows → done_left (Done (length l)) l ≡ placed c
+  pub left_placed : {l : List ℕ} → first (place_questions c) ≡ none → l ≡ placings c.inputs c.report c.rows → done_left (Ok (length l)) l ≡ placed c
   left_placed e f =
-      ap (λ (m : List ℕ). done_left (Done (length m)) m) f
-      ∙ ap (λ (k : ℕ). done_left (Done k) (place_deed c).after) placings_length
+      ap (λ (m : List ℕ). done_left (Ok (length m)) m) f
+      ∙ ap (λ (k : ℕ). done_left (Ok k) (place_deed c).after) placings_length
       ∙ sym (left_done (place_questions c) (place_deed c) e)
 
-  pub row_answer : (m : ℕ) → (placed c).answer ≡ Done m → (k : ℕ) → k < m
+  pub row_answer : (m : ℕ) → (placed c).answer ≡ Ok m → (k : ℕ) → k < m
       → get_or (placed c).list k 0 ≡ placing (all_said c.inputs c.report) (row_at c.inputs c.rows k)
   row_answer m e k l =
       ap (λ (ws : List ℕ). get_or ws k 0) (all.written m e ∙ placings_are c.inputs c.report c.rows)

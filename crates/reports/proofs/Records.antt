@@ -83,29 +83,28 @@ module _ (n : ℕ) (rows : List ℕ) (k : ℕ) (inside : k < rows_in n rows) (by
   box_length : length box ≡ n
   box_length = length-map (from 0 n) (input_in n bytes) ∙ length_from n 0
 
-  pub inside_end : (i : ℕ) → n ≤ i → inside_from i ≡ true
+  inside_end : (i : ℕ) → n ≤ i → inside_from i ≡ true
   unfolding is_inside
   inside_end i h =
       rw (drop_of_length-le row {i = i} (omega (arith, row_length)), drop_of_length-le box {i = i} (omega (arith, box_length)))
 
-  module _ (i : ℕ) {low high : ℕ} (h : i < n) (l : low ≡ (input_in n bytes i).low) (m : high ≡ (input_in n bytes i).high) where
-    -- the code's test of one value
-    abbrev tested : Bool
-    tested = let x = get_or rows (n * k + i) 0 in leb low x && leb x high
+  -- the code's test of value i
+  abbrev pub tested : ℕ → Bool
+  tested i = let x = get_or rows (n * k + i) 0 in let v = input_in n bytes i in leb v.low x && leb x v.high
 
-    from_here : inside_from i ≡ tested && inside_from (i + 1)
-    unfolding is_inside
-    from_here =
-        let x = get_or-take n (drop (n * k) rows) i 0 h ∙ get_or-drop (n * k) rows i 0 in
-        let v = from_at (input_in n bytes) (0 ⋯ 0) n 0 i h ∙ ap (input_in n bytes) (zero-add i) in
-        rw (add-one i, drop-cons row i 0 (omega (arith, row_length)), drop-cons box i (0 ⋯ 0) (omega (arith, box_length)), x, v, l, m)
-        (sym (and_assoc (leb (input_in n bytes i).low (get_or rows (n * k + i) 0)) (leb (get_or rows (n * k + i) 0) (input_in n bytes i).high) (is_inside (drop (suc i) row) (drop (suc i) box))))
+  from_here : (i : ℕ) → i < n → inside_from i ≡ tested i && inside_from (i + 1)
+  unfolding is_inside
+  from_here i h =
+      let x = get_or-take n (drop (n * k) rows) i 0 h ∙ get_or-drop (n * k) rows i 0 in
+      let v = from_at (input_in n bytes) (0 ⋯ 0) n 0 i h ∙ ap (input_in n bytes) (zero-add i) in
+      rw (add-one i, drop-cons row i 0 (omega (arith, row_length)), drop-cons box i (0 ⋯ 0) (omega (arith, box_length)), x, v)
+      (sym (and_assoc (leb (input_in n bytes i).low (get_or rows (n * k + i) 0)) (leb (get_or rows (n * k + i) 0) (input_in n bytes i).high) (is_inside (drop (suc i) row) (drop (suc i) box))))
 
-    pub inside_stop : tested ≡ false → inside_from i ≡ false
-    inside_stop e = from_here ∙ rw e
-
-    pub inside_go : tested ≡ true → inside_from i ≡ inside_from (i + 1)
-    inside_go e = from_here ∙ rw e
+  pub inside_each : (m i : ℕ) → i + m ≡ n → inside_from i ≡ each tested i m
+  unfolding each
+  inside_each zero i e = inside_end i (omega arith)
+  inside_each (suc m) i e =
+      from_here i (omega arith) ∙ ap (λ (b : Bool). tested i && b) (inside_each m (i + 1) (omega arith) ∙ ap (λ (j : ℕ). each tested j m) (add-one i))
 
 -- the placings, by the number of the row
 module _ (n : ℕ) (report rows : List ℕ) where

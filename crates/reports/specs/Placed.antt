@@ -1,5 +1,5 @@
 -- What a call that places rows promises: its refusals, the first listed, and our own complete reports.
-use Rattle.std.specs.Prelude.{◌≡◌, ◌⊎◌, true, false, ℕ, ◌^◌, ◌≤◌, ◌<◌, length, get_or}
+use Rattle.std.specs.Prelude.{◌≡◌, ◌⊎◌, true, false, ℕ, ◌^◌, ◌≤◌, ◌<◌, length, get_or, Ok}
 use mathlib.Core.List.{List, flat_map}
 use Rattle.boxes.specs.Boxes.{Choice, Inside}
 use Rattle.listing.specs.Group.{Job}
@@ -12,7 +12,6 @@ use Rattle.calls.specs.Faithful.{Faithful}
 use Rattle.calls.specs.Engine.{Exchange}
 use Rattle.calls.specs.Done.{DoneLeft, Completes}
 use Rattle.calls.specs.Together.{Pages, bytes_written}
-use Rattle.calls.specs.declared.Completion.TheVariants.{Done}
 use Rattle.reports.specs.Placing.{rows_in, row_at, is_inside, no_path, PlaceCall, place_call_of, rows_fit, place_questions, place_deed, placed}
 
 -- no record holds the row
@@ -44,14 +43,14 @@ pub record Places (c : PlaceCall) (l : DoneLeft) : Type 0 where
   -- the first no decides, and a refusal writes nothing
   pub completes : Completes (place_questions c) (place_deed c) l
   -- done, each row has its answer, in the order of the rows
-  pub size : (m : ℕ) → l.answer ≡ Done m → length l.list ≡ m
-  pub each_row : (m : ℕ) → l.answer ≡ Done m → (k : ℕ) → k < m
+  pub size : (m : ℕ) → l.answer ≡ Ok m → length l.list ≡ m
+  pub each_row : (m : ℕ) → l.answer ≡ Ok m → (k : ℕ) → k < m
       → RowPlaced c.inputs c.report (row_at c.inputs c.rows k) (get_or l.list k 0)
 
 -- a row's answer is the same whatever other rows come with it, and wherever it stands among them: two accepted calls on one report
 abbrev pub SameAnswers : PlaceCall → PlaceCall → Type 0
 SameAnswers c d = c.inputs ≡ d.inputs → c.report ≡ d.report
-    → (m n : ℕ) → (placed c).answer ≡ Done m → (placed d).answer ≡ Done n → (i k : ℕ) → i < m → k < n
+    → (m n : ℕ) → (placed c).answer ≡ Ok m → (placed d).answer ≡ Ok n → (i k : ℕ) → i < m → k < n
     → row_at c.inputs c.rows i ≡ row_at d.inputs d.rows k → get_or (placed c).list i 0 ≡ get_or (placed d).list k 0
 
 -- a complete report of our own: the pages that accepted calls wrote of the job of c, from path 0 on until none remains, joined
@@ -75,7 +74,7 @@ pub record OnPath (j : Job) (choice : Choice) (x : ℕ) : Type 0 where
 -- what a call leaves that places rows in a complete report of the job
 pub record OwnAnswers (j : Job) (n : ℕ) (rows : List ℕ) (l : DoneLeft) : Type 0 where
   -- it is not turned away
-  pub answered : l.answer ≡ Done (rows_in n rows)
+  pub answered : l.answer ≡ Ok (rows_in n rows)
   -- every row from the starting box has the number of its path
   pub from_box : (k : ℕ) → k < rows_in n rows → Inside (row_at n rows k) j.box → OnPath j (row_at n rows k) (get_or l.list k 0)
   -- every other row has MAX

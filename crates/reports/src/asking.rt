@@ -9,8 +9,8 @@ ghost use Rattle.reports.specs.Placing.{rows_fit, place_questions, place_call_le
 use blocks::block::checks_agree;
 use blocks::layout::INPUTS;
 use blocks::report::{record_bytes, record_word, records_in};
-use calls::questions::inputs_fit;
-use calls::{Questioned, Refusal};
+use calls::Refusal;
+use calls::questions::{inputs_fit, require};
 
 // Rows that one call places.
 const MOST_ROWS: usize = 1024;
@@ -19,26 +19,19 @@ const MOST_ROWS: usize = 1024;
 fn counts_agree(report: &[u8], inputs: usize) -> bool
     ensures { result ≡ every (has_count inputs) (records_of inputs report.now) }
 {
-    let n = records_in(report, inputs);
-    let mut k: usize = 0;
-    while k < n {
-        if record_word(report, inputs, k, INPUTS) != inputs as u64 {
-            return false;
-        }
-        k += 1;
-    }
-    true
+    (0..records_in(report, inputs)).all(|k| record_word(report, inputs, k, INPUTS) == inputs as u64)
 }
 
 // Question 12.
 pub fn is_readable(inputs: u64, report: &[u8]) -> bool
     ensures { result ≡ readable inputs report.now }
 {
-    if !((1 <= inputs) & inputs_fit(inputs)) {
-        return false;
-    }
     let n = inputs as usize;
-    (report.len() % record_bytes(n) == 0) & (counts_agree(report, n) & checks_agree(report))
+    1 <= inputs
+        && inputs_fit(inputs)
+        && report.len() % record_bytes(n) == 0
+        && counts_agree(report, n)
+        && checks_agree(report)
 }
 
 // Question 13.
@@ -47,18 +40,19 @@ fn rows_fit(inputs: usize, rows: &[u64], answers: &[u64]) -> bool
     ensures { result ≡ rows_fit inputs rows.now answers.now }
 {
     let n = rows.len() / inputs;
-    (rows.len() % inputs == 0) & ((n <= MOST_ROWS) & (answers.len() == n))
+    rows.len() % inputs == 0 && n <= MOST_ROWS && answers.len() == n
 }
 
 // The first no of questions 12 and 13, or that both have the answer yes.
-pub(crate) fn ask_place(inputs: u64, report: &[u8], rows: &[u64], answers: &[u64]) -> Questioned
+#[tactic(auto, unfolding(crate::specs::Placing::place_questions, listing::specs::First::first))]
+pub(crate) fn ask_place(
+    inputs: u64,
+    report: &[u8],
+    rows: &[u64],
+    answers: &[u64],
+) -> Result<(), Refusal>
     ensures { refusal_in result ≡ first (place_questions (place_call_lent inputs report rows answers)) }
 {
-    if !is_readable(inputs, report) {
-        return Questioned::No(Refusal::Records);
-    }
-    if !rows_fit(inputs as usize, rows, answers) {
-        return Questioned::No(Refusal::Rows);
-    }
-    Questioned::AllYes
+    require(is_readable(inputs, report), Refusal::Records)?;
+    require(rows_fit(inputs as usize, rows, answers), Refusal::Rows)
 }

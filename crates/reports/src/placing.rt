@@ -10,10 +10,10 @@ ghost use Rattle.reports.specs.Placing.{rows_in, row_at, is_inside, placing, pla
 use crate::asking::ask_place;
 use blocks::layout::NUMBER;
 use blocks::report::{input_high, input_low, record_word, records_in};
-use calls::{Completion, Questioned};
+use calls::Completion;
 use words::MAX;
 
-// MAX, for a row in no path.
+// MAX, for a row in no path: document 02's word, which the caller's list holds.
 const NO_PATH: u64 = MAX;
 
 // Whether the box of record k holds row j.
@@ -21,17 +21,10 @@ fn record_holds(report: &[u8], inputs: usize, k: usize, rows: &[u64], j: usize) 
     requires { (k < records_in inputs report.now) × (inputs ≤ most_inputs) × (j < rows_in inputs rows.now) }
     ensures { result ≡ is_inside (row_at inputs rows.now j) (said_at inputs report.now k).box }
 {
-    let mut i: usize = 0;
-    while i < inputs {
+    (0..inputs).all(|i| {
         let x = rows[inputs * j + i];
-        let low = input_low(report, inputs, k, i);
-        let high = input_high(report, inputs, k, i);
-        if !((low <= x) & (x <= high)) {
-            return false;
-        }
-        i += 1;
-    }
-    true
+        input_low(report, inputs, k, i) <= x && x <= input_high(report, inputs, k, i)
+    })
 }
 
 // The placing of row j.
@@ -40,12 +33,10 @@ fn place_row(report: &[u8], inputs: usize, rows: &[u64], j: usize) -> u64
     ensures { result ≡ placing (all_said inputs report.now) (row_at inputs rows.now j) }
 {
     let n = records_in(report, inputs);
-    let mut k: usize = 0;
-    while k < n {
+    for k in 0..n {
         if record_holds(report, inputs, k, rows, j) {
             return record_word(report, inputs, k, NUMBER);
         }
-        k += 1;
     }
     NO_PATH
 }
@@ -55,10 +46,8 @@ fn place_rows(report: &[u8], inputs: usize, rows: &[u64], answers: &mut [u64])
     requires { (inputs ≤ most_inputs) × (length answers.old ≡ rows_in inputs rows.now) }
     ensures { answers.new ≡ placings inputs report.now rows.now }
 {
-    let mut j: usize = 0;
-    while j < answers.len() {
-        answers[j] = place_row(report, inputs, rows, j);
-        j += 1;
+    for (j, answer) in answers.iter_mut().enumerate() {
+        *answer = place_row(report, inputs, rows, j);
     }
 }
 
@@ -66,10 +55,7 @@ fn place_rows(report: &[u8], inputs: usize, rows: &[u64], answers: &mut [u64])
 pub fn place(inputs: u64, report: &[u8], rows: &[u64], answers: &mut [u64]) -> Completion
     ensures { done_left result answers.new ≡ placed_on inputs report rows answers }
 {
-    let d = ask_place(inputs, report, rows, answers);
-    let Questioned::No(r) = d else {
-        place_rows(report, inputs as usize, rows, answers);
-        return Completion::Done(answers.len() as u64);
-    };
-    Completion::Refused(r)
+    ask_place(inputs, report, rows, answers)?;
+    place_rows(report, inputs as usize, rows, answers);
+    Ok(answers.len() as u64)
 }

@@ -11,8 +11,7 @@ use Rattle.words.specs.Word.{size, word, widen}
 use Rattle.riscu.specs.Machine.{State, reg, taken, following, jump, read_next, step, fetch, step_decoded, run}
 use Rattle.riscu.specs.declared.Instruction.{Instruction}
 use Rattle.riscu.specs.declared.Instruction.TheVariants.{Lui, Immediate, Register, Ld, Sd, Branch, Jal, Jalr, Ecall}
-use Rattle.riscu.specs.declared.Decoded.{Decoded}
-use Rattle.riscu.specs.declared.Decoded.TheVariants.{Row, NoRow}
+use Rattle.std.specs.Prelude.{Option, Some, None}
 
 -- of a state after one with n inputs read
 record Counted (n : ℕ) (t : State) : Type 0 where
@@ -52,9 +51,9 @@ module _ (code inputs : List ℕ) (l : length code ≤ 1024) (s : State) (p : s.
       t : State
       t = run code inputs n s
 
-      go : (d : Decoded) → t.pc < size → (step_decoded inputs d t).pc < size
-      go (Row i) h = (step_counted inputs i t).pc_word
-      go NoRow h = h
+      go : (d : Option Instruction) → t.pc < size → (step_decoded inputs d t).pc < size
+      go (Some i) h = (step_counted inputs i t).pc_word
+      go None h = h
 
   pub run_reads : (n : ℕ) → (run code inputs n s).reads ≤ s.reads + n
   unfolding run step_decoded
@@ -64,6 +63,6 @@ module _ (code inputs : List ℕ) (l : length code ≤ 1024) (s : State) (p : s.
       t : State
       t = run code inputs n s
 
-      go : (d : Decoded) → t.reads ≤ s.reads + n → (step_decoded inputs d t).reads ≤ s.reads + suc n
-      go (Row i) h = omega (arith, (step_counted inputs i t).reads_one)
-      go NoRow h = omega arith
+      go : (d : Option Instruction) → t.reads ≤ s.reads + n → (step_decoded inputs d t).reads ≤ s.reads + suc n
+      go (Some i) h = omega (arith, (step_counted inputs i t).reads_one)
+      go None h = omega arith

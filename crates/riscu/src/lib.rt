@@ -70,13 +70,6 @@ pub enum Instruction {
     Ecall,
 }
 
-// What a word holds: a row of the table, or none.
-#[derive(Clone, Copy)]
-pub enum Decoded {
-    Row(Instruction),
-    NoRow,
-}
-
 // Where a machine is: its pc, and how many inputs it has read.
 #[derive(Clone, Copy)]
 pub struct At {

@@ -1,22 +1,9 @@
--- A step by the instruction of its row, and a run by its steps. Assumes nothing.
-use mathlib.Core.Path.{◌≡◌, sym, ap, ◌∙◌}
+-- A run by its steps. Assumes nothing.
+use mathlib.Core.Path.{◌≡◌, ap, ◌∙◌}
 use mathlib.Core.List.{List}
 use Prim.Native.Nat.{ℕ, ◌+◌}
 use native.Mathlib.Numerals.{add-one}
-use Rattle.riscu.specs.Machine.{State, step, fetch, step_decoded, run}
-use Rattle.riscu.specs.declared.Instruction.{Instruction}
-use Rattle.riscu.specs.declared.Decoded.{Decoded}
-use Rattle.riscu.specs.declared.Decoded.TheVariants.{Row, NoRow}
-
--- where it is known what a row's word is: an instruction, or none
-pub of_row : {d : Decoded} {i : Instruction} {t : State} (inputs : List ℕ) (s : State) → d ≡ Row i → t ≡ step inputs i s
-    → t ≡ step_decoded inputs d s
-unfolding step_decoded
-of_row inputs s e h = h ∙ ap (λ (d : Decoded). step_decoded inputs d s) (sym e)
-
-pub of_none : {d : Decoded} (inputs : List ℕ) (s : State) → d ≡ NoRow → s ≡ step_decoded inputs d s
-unfolding step_decoded
-of_none inputs s e = ap (λ (d : Decoded). step_decoded inputs d s) (sym e)
+use Rattle.riscu.specs.Machine.{State, fetch, step_decoded, run}
 
 pub one_more : (code inputs : List ℕ) (s : State) (k : ℕ) (t u : State) → t ≡ run code inputs k s
     → u ≡ step_decoded inputs (fetch code t.pc) t → u ≡ run code inputs (k + 1) s

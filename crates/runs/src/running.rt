@@ -17,16 +17,13 @@ fn step_at(
 ) -> At
     ensures { state result registers.new memory.new ≡ step_decoded inputs.now (fetch code.now at.pc) (state at registers.old memory.old) }
 {
-    let pc = at.pc;
-    let n = code.len() as u64;
-    if pc % 4 != 0 {
+    if at.pc % 4 != 0 {
         return at;
     }
-    if n <= pc / 4 {
-        return at;
+    match code.get((at.pc / 4) as usize) {
+        Some(&word) => step_word(word, registers, memory, inputs, at),
+        None => at,
     }
-    let k = (pc / 4) as usize;
-    step_word(code[k], registers, memory, inputs, at)
 }
 
 // n instructions from where the machine is.
@@ -41,10 +38,8 @@ pub fn proceed(
     ensures { state result registers.new memory.new ≡ run code.now inputs.now n (state from registers.old memory.old) }
 {
     let mut at = from;
-    let mut k: usize = 0;
-    while k < n {
+    for _ in 0..n {
         at = step_at(code, registers, memory, inputs, at);
-        k += 1;
     }
     at
 }
@@ -53,14 +48,13 @@ pub fn proceed(
 pub fn begin(memory: &Memory, registers: &mut Registers, words: &mut Memory) -> At
     ensures { state result registers.new words.new ≡ start memory.now }
 {
-    let first = Machine::start();
-    let held = first.registers;
+    let Machine {
+        at,
+        registers: held,
+    } = Machine::start();
     *registers = held;
     *words = *memory;
-    At {
-        pc: first.pc,
-        reads: first.reads,
-    }
+    at
 }
 
 // n instructions from the starting machine, with memory as lent.

@@ -25,7 +25,7 @@ use Rattle.calls.specs.Engine.{Lent, Leaves, Exchange, History, over, made}
 use Rattle.calls.specs.Refuses.{FirstNo}
 use Rattle.calls.specs.Reported.{Reported}
 use Rattle.calls.specs.Together.{is_accepted, Pages, Joined}
-use Rattle.calls.specs.declared.Answer.TheVariants.{Refused}
+use Rattle.std.specs.Prelude.{Err}
 use Rattle.calls.specs.declared.Refusal.{Refusal}
 use Rattle.calls.proofs.Asked.{first_no}
 use Rattle.demands.proofs.Demands.{leaves_meets, leaves_answers, demand_1, demand_2, demand_3}
@@ -67,7 +67,7 @@ module _ (bytes report : List ℕ) where
   pub server_refusal : refusal_by (served bytes report).answer ≡ first asked
   server_refusal = rw served_by_lem (reply_refusal memory table_words c (first asked))
 
-  pub server_refused : (r : Refusal) → ((served bytes report).answer ≡ Refused r) ↔ FirstNo asked r
+  pub server_refused : (r : Refusal) → ((served bytes report).answer ≡ Err r) ↔ FirstNo asked r
   server_refused r = rw served_by_lem (
     λ e. (first_no asked r).0 (refused_asks memory table_words c r (first asked) e),
     λ f. asks_refused memory table_words c r (first asked) ((first_no asked r).1 f),
@@ -79,7 +79,7 @@ module _ (bytes report : List ℕ) where
     λ h. passes_page memory table_words c (first asked) ((none_applies asked).1 h),
   )
 
-  unchanged : (r : Refusal) → (served bytes report).answer ≡ Refused r → (served bytes report).report ≡ report
+  unchanged : (r : Refusal) → (served bytes report).answer ≡ Err r → (served bytes report).report ≡ report
   unfolding reply_by
   unchanged r e = rw (served_by_lem, (first_no asked r).1 ((server_refused r).0 e))
 

@@ -1,27 +1,26 @@
 -- What the reader leaves, and what the server's call makes of it.
 -- Assumes nothing.
 use mathlib.Core.Path.{◌≡◌, refl, sym, ap, ◌∙◌}
-use mathlib.Core.Bool.{Bool, true, true≢false}
+use mathlib.Core.Bool.{true, true≢false}
 use mathlib.Core.List.{List}
 use mathlib.Core.Option.{Option, none, some}
 use Prim.Native.Nat.{ℕ, ◌*◌, ◌≤◌}
 use native.Mathlib.Nat.{div-mul-le_self}
 use native.Mathlib.Omega.{arith}
+use Rattle.std.specs.Prelude.{Ok, Err}
 use lib.ListN.{length, take, drop, length-append, length-drop, length-take}
 use Rattle.blocks.specs.Record.{most_inputs, record_bytes}
 use Rattle.blocks.specs.Report.{records_in}
 use Rattle.riscu.specs.Limits.{code_words, memory_words}
-use Rattle.calls.specs.Call.{Call, call_of, is_page, refusal_of, job_of, page, Reply, reply_by, reply_to, Left, left, called}
+use Rattle.calls.specs.Call.{Call, Answer, call_of, is_page, refusal_of, job_of, page, Reply, reply_by, reply_to, Left, left, called}
 use Rattle.calls.specs.declared.Refusal.{Refusal}
 use Rattle.listing.specs.Listing.{listing}
-use Rattle.calls.specs.declared.Answer.{Answer}
+use Rattle.calls.specs.declared.Page.{Page}
 use Rattle.jobs.specs.Job.{input_count, code_in, intervals_in, memory_in, job_read, call_in, job_refusal_of}
-use Rattle.jobs.specs.Working.Reading.{counts_in, over, JobLeft, job_left, read_by, read_to}
+use Rattle.jobs.specs.Working.Reading.{counts_in, over, JobAnswer, JobLeft, job_left, read_by, read_to}
 use Rattle.jobs.specs.declared.Counts.{Counts}
-use Rattle.jobs.specs.declared.JobAnswer.TheVariants.{Refused, Read}
 use Rattle.jobs.proofs.Accepted.{code_length as code_read, intervals_length as intervals_read, memory_length as memory_read, over_taken}
 use Rattle.jobs.proofs.Asked.{yes_sized}
-use Rattle.calls.specs.declared.Answer.TheVariants as answer
 use Rattle.serving.specs.Served.{table_words, reply, served_by, served}
 
 -- the reply of an exploration with the program's table
@@ -31,17 +30,17 @@ unfolding called
 explored_reply a report table words memory c e n = ap (λ (l : Left). l.reply) e ∙ ap (λ (k : ℕ). reply_to memory k c) n
 
 module _ (job code intervals memory : List ℕ) (c i m : List ℕ) where
-  pub read_refused : {r : Refusal} → job_left (Refused r) c i m ≡ read_to job code intervals memory → job_refusal_of job ≡ some r
+  pub read_refused : {r : Refusal} → job_left (Err r) c i m ≡ read_to job code intervals memory → job_refusal_of job ≡ some r
   unfolding read_to read_by
   read_refused {r} e = go (job_refusal_of job) e
     where
-      go : (o : Option Refusal) → job_left (Refused r) c i m ≡ read_by job code intervals memory o → o ≡ some r
+      go : (o : Option Refusal) → job_left (Err r) c i m ≡ read_by job code intervals memory o → o ≡ some r
       go (some q) e =
-          let a : Refused r ≡ Refused q = ap (λ (l : JobLeft). l.answer) e in
+          let a : ◌≡◌ {A = JobAnswer} (Err r) (Err q) = ap (λ (l : JobLeft). l.answer) e in
           let b : q ≡ r = cc in
           ap (λ (x : Refusal). some x) b
       go none e =
-          let a : Refused r ≡ Read (counts_in job) = ap (λ (l : JobLeft). l.answer) e in
+          let a : ◌≡◌ {A = JobAnswer} (Err r) (Ok (counts_in job)) = ap (λ (l : JobLeft). l.answer) e in
           let z : ◌≡◌ {A = ℕ} 0 1 = cc in
           absurd (omega arith)
 
@@ -53,17 +52,17 @@ module _ (job code intervals memory : List ℕ) (c i m : List ℕ) where
     pub intervals_is : i ≡ over (intervals_in job) intervals
     pub memory_is : m ≡ memory_in job
 
-  pub read_passed : {k : Counts} → job_left (Read k) c i m ≡ read_to job code intervals memory → JobPassed k
+  pub read_passed : {k : Counts} → job_left (Ok k) c i m ≡ read_to job code intervals memory → JobPassed k
   unfolding read_to read_by job_read
   read_passed {k} e = go (job_refusal_of job) refl e
     where
-      go : (o : Option Refusal) → job_refusal_of job ≡ o → job_left (Read k) c i m ≡ read_by job code intervals memory o → JobPassed k
+      go : (o : Option Refusal) → job_refusal_of job ≡ o → job_left (Ok k) c i m ≡ read_by job code intervals memory o → JobPassed k
       go (some q) d e =
-          let a : Read k ≡ Refused q = ap (λ (l : JobLeft). l.answer) e in
+          let a : ◌≡◌ {A = JobAnswer} (Ok k) (Err q) = ap (λ (l : JobLeft). l.answer) e in
           let z : ◌≡◌ {A = ℕ} 0 1 = cc in
           absurd (omega arith)
       go none d e =
-          let a : Read k ≡ Read (counts_in job) = ap (λ (l : JobLeft). l.answer) e in
+          let a : ◌≡◌ {A = JobAnswer} (Ok k) (Ok (counts_in job)) = ap (λ (l : JobLeft). l.answer) e in
           record {
             passes = d;
             counts = cc;
@@ -109,7 +108,7 @@ module _ (job code intervals memory : List ℕ) (c i m : List ℕ) where
         rw o.passes f
 
 -- a job that a question refuses: the refusal, and the report as lent
-pub served_refused : {r : Refusal} (job report : List ℕ) → job_refusal_of job ≡ some r → served job report ≡ reply (answer.Refused r) report
+pub served_refused : {r : Refusal} (job report : List ℕ) → job_refusal_of job ≡ some r → served job report ≡ reply (Err r) report
 unfolding served served_by
 served_refused job report e = rw e
 
@@ -128,15 +127,15 @@ pub listed_replied : (job report : List ℕ) → is_page (served job report).ans
 listed_replied job report e = let n = listed_passes job report e in unfold served served_by in rw n
 
 -- a page has no more paths than its report holds
-pub listed_fits : {n : ℕ} {m : Bool} (job report left : List ℕ) → reply (answer.Page n m) left ≡ served job report
-    → n * record_bytes (input_count job) ≤ length report
+pub listed_fits : {p : Page} (job report left : List ℕ) → reply (Ok p) left ≡ served job report
+    → p.count * record_bytes (input_count job) ≤ length report
 unfolding reply_to reply_by page is_page
-listed_fits {n} {m} job report left e =
+listed_fits {p} job report left e =
     let page = ap (λ (y : Reply). is_page y.answer) (sym e) in
     replied (refusal_of (job_read job).memory table_words (call_in job report)) (ap (λ (y : Reply). y.answer) (e ∙ listed_replied job report page))
   where
-    replied : (o : Option Refusal) → answer.Page n m ≡ (reply_by (job_read job).memory table_words (call_in job report) o).answer → n * record_bytes (input_count job) ≤ length report
+    replied : (o : Option Refusal) → Ok p ≡ (reply_by (job_read job).memory table_words (call_in job report) o).answer → p.count * record_bytes (input_count job) ≤ length report
     replied (some r) e = let z : ◌≡◌ {A = ℕ} 0 1 = cc in absurd (omega arith)
     replied none e =
-        let k : n ≡ length (take (records_in (input_count job) report) (drop (job_read job).first (listing (job_of (job_read job).memory table_words (call_in job report))))) = cc in
+        let k : p.count ≡ length (take (records_in (input_count job) report) (drop (job_read job).first (listing (job_of (job_read job).memory table_words (call_in job report))))) = cc in
         omega (arith, simp length-take at k, div-mul-le_self (length report) (record_bytes (input_count job)))

@@ -2,19 +2,19 @@
 -- from the first wanted on.
 -- Assumes nothing.
 use mathlib.Core.Path.{◌≡◌, refl, sym, ap, ◌∙◌}
-use mathlib.Core.Bool.{Bool, true}
+use mathlib.Core.Bool.{true}
 use mathlib.Core.List.{List, ◌++◌}
 use mathlib.Core.Option.{none, some}
 use Prim.Native.Nat.{ℕ, ◌+◌, ◌*◌, ◌^◌, ◌≤◌}
 use native.Mathlib.Omega.{arith}
 use lib.Dec.{ltb}
 use lib.ListN.{length, take, drop}
+use Rattle.std.specs.Prelude.{Ok, Err}
 use Rattle.blocks.specs.Record.{record_bytes}
 use Rattle.blocks.specs.Report.{records_in}
-use Rattle.calls.specs.Call.{Call, inputs_of, Typed, Below, Reply, is_page, refusal_of, job_of, page, reply_by, reply_to}
+use Rattle.calls.specs.Call.{Call, Answer, inputs_of, Typed, Below, Reply, is_page, refusal_of, job_of, page, reply_by, reply_to}
 use Rattle.calls.specs.Questions.{number}
-use Rattle.calls.specs.declared.Answer.{Answer}
-use Rattle.calls.specs.declared.Answer.TheVariants.{Refused, Page}
+use Rattle.calls.specs.declared.Page.{Page}
 use Rattle.calls.specs.declared.Refusal.{Refusal}
 use Rattle.demands.proofs.Refuses.{page_passes}
 use Rattle.demands.proofs.Reported.{page_few, page_fits, page_inputs}
@@ -43,12 +43,12 @@ unfolding response_by is_page
 response_length job report = go (served job report).answer refl
   where
     go : (a : Answer) → (served job report).answer ≡ a → length (response_by (input_count job) a (served job report).report) ≤ longest (records_in (input_count job) report)
-    go (Refused r) e = omega (arith, refusal_length (number r))
-    go (Page n m) e =
+    go (Err r) e = omega (arith, refusal_length (number r))
+    go (Ok p) e =
         let l = (served job report).report in
         let f = listed_fits job report l (ap (λ (a : Answer). reply a l) (sym e)) in
         let few = (yes_sized job (listed_passes job report (ap is_page e))).inputs in
-        omega (arith, listing_length (input_count job) n m l few)
+        omega (arith, listing_length (input_count job) p.count p.more l few)
 
 -- so where such a text fits, the whole text is written
 pub response_whole : (job report out : List ℕ) → longest (records_in (input_count job) report) ≤ length out
@@ -69,14 +69,14 @@ module _ (memory : List ℕ) (words : ℕ) (c : Call) (bounded : Below (2 ^ 64) 
   abbrev ps : List Path
   ps = page j c
 
-  page_shown : {n : ℕ} {m : Bool} {left : List ℕ} → reply (Page n m) left ≡ reply_to memory words c → listing_text (inputs_of c) n m left ≡ listing_of c.first ps m
+  page_shown : {p : Page} {left : List ℕ} → reply (Ok p) left ≡ reply_to memory words c → listing_text (inputs_of c) p.count p.more left ≡ listing_of c.first ps p.more
   unfolding reply_to reply_by
-  page_shown {n} {m} {left} e =
-      let f : reply (Page n m) left ≡ reply_by memory words c none = e ∙ ap (reply_by memory words c) d in
-      let a : Page n m ≡ Page (length ps) (ltb (c.first + length ps) (length (listing j))) = ap (λ (y : Reply). y.answer) f in
-      let count : n ≡ length ps = cc in
+  page_shown {p} {left} e =
+      let f : reply (Ok p) left ≡ reply_by memory words c none = e ∙ ap (reply_by memory words c) d in
+      let a : ◌≡◌ {A = Answer} (Ok p) (Ok (record { count = length ps; more = ltb (c.first + length ps) (length (listing j)) })) = ap (λ (y : Reply). y.answer) f in
+      let count : p.count ≡ length ps = cc in
       let bytes = ap (λ (y : Reply). y.report) f in
-      rw (count, bytes) (listing_told (inputs_of c) (2 ^ 64) (drop (record_bytes (inputs_of c) * length ps) c.report) c.first ps m (page_few memory words c bounded typed d) (page_fits memory words c bounded typed d) (page_inputs memory words c bounded typed d))
+      rw (count, bytes) (listing_told (inputs_of c) (2 ^ 64) (drop (record_bytes (inputs_of c) * length ps) c.report) c.first ps p.more (page_few memory words c bounded typed d) (page_fits memory words c bounded typed d) (page_inputs memory words c bounded typed d))
 
 inputs_in : (job report : List ℕ) → inputs_of (call_in job report) ≡ input_count job
 unfolding job_read
@@ -87,16 +87,16 @@ unfolding reply_to
 replied_passes memory words c e = page_passes memory words c (refusal_of memory words c) e
 
 -- the text of a listing
-pub response_shown : {n : ℕ} {m : Bool} (job report : List ℕ) → Bytes job report → (served job report).answer ≡ Page n m
-    → response_to job (served job report) ≡ listing_of (call_in job report).first (page (job_of (job_read job).memory table_words (call_in job report)) (call_in job report)) m
+pub response_shown : {p : Page} (job report : List ℕ) → Bytes job report → (served job report).answer ≡ Ok p
+    → response_to job (served job report) ≡ listing_of (call_in job report).first (page (job_of (job_read job).memory table_words (call_in job report)) (call_in job report)) p.more
 unfolding response_by is_page
-response_shown {n} {m} job report b e =
+response_shown {p} job report b e =
     let l = lent job report b in
     let c = call_in job report in
     let memory = (job_read job).memory in
     let listed : is_page (served job report).answer ≡ true = ap is_page e in
     let q = listed_replied job report listed in
-    let y : reply (Page n m) (served job report).report ≡ reply_to memory table_words c = ap (λ (a : Answer). reply a (served job report).report) (sym e) ∙ q in
+    let y : reply (Ok p) (served job report).report ≡ reply_to memory table_words c = ap (λ (a : Answer). reply a (served job report).report) (sym e) ∙ q in
     let a : is_page (reply_to memory table_words c).answer ≡ true = rw q at listed in
     rw (e, ← inputs_in job report) (page_shown memory table_words c l.memory_words l.typed (replied_passes memory table_words c a) y)
 
@@ -121,7 +121,8 @@ module _ (job report : List ℕ) (b : Bytes job report) (size : length report �
   abbrev program_page : List Path
   program_page = page program_job program_call
 
-  program_answers : (served job report).answer ≡ Page (length program_page) (ltb (program_call.first + length program_page) (length (listing program_job)))
+  program_answers : (served job report).answer
+      ≡ Ok (record { count = length program_page; more = ltb (program_call.first + length program_page) (length (listing program_job)) })
   unfolding served served_by reply_to reply_by
   program_answers = rw (passed, program_passes)
 

@@ -1,5 +1,5 @@
 -- Demands 1, 2 and 3 of the server: one claim about a list of its calls, refused ones included.
-use Rattle.std.specs.Prelude.{ℕ, ◌^◌, ◌<◌, ◌≡◌, ◌↔◌, true, cond, length, replicate}
+use Rattle.std.specs.Prelude.{ℕ, ◌^◌, ◌<◌, ◌≡◌, ◌↔◌, true, cond, length, replicate, Err}
 use mathlib.Core.List.{List, [], ◌∷◌, ◌++◌, map, flat_map}
 use Rattle.boxes.specs.Boxes.{◌∈◌}
 use Rattle.listing.specs.Group.{view_of}
@@ -11,7 +11,6 @@ use Rattle.calls.specs.Engine.{Exchange}
 use Rattle.calls.specs.Refuses.{FirstNo}
 use Rattle.calls.specs.Reported.{Reported}
 use Rattle.calls.specs.Together.{Pages, Joined}
-use Rattle.calls.specs.declared.Answer.TheVariants.{Refused}
 use Rattle.calls.specs.declared.Refusal.{Refusal}
 use Rattle.calls.specs.declared.Refusal.TheVariants.{Report}
 use Rattle.jobs.specs.Job.{job_read, call_in, job_questions}
@@ -50,14 +49,14 @@ server_questions bytes report =
 -- Each answer is an exploration that finishes or a numbered refusal, and each listed path agrees with the plain machine.
 pub record ServedResponds (y : ServedCall) : Type 0 where
   -- the first no decides: a job is refused exactly if the first no gives that refusal
-  pub refused : (r : Refusal) → (y.left.answer ≡ Refused r) ↔ FirstNo (server_questions y.job y.report) r
+  pub refused : (r : Refusal) → (y.left.answer ≡ Err r) ↔ FirstNo (server_questions y.job y.report) r
   -- and listed exactly if every question has the answer yes
   pub listed : (is_page y.left.answer ≡ true) ↔ AllYes (server_questions y.job y.report)
   -- the exploration of a listed job finishes: in the end no group waits
   pub finishes : is_page y.left.answer ≡ true
       → let j = job_of (memory_by y) table_words (call_by y) in (moves view_of j (enough j)).waiting ≡ []
   -- a refused job changes nothing
-  pub unchanged : (r : Refusal) → y.left.answer ≡ Refused r → y.left.report ≡ y.report
+  pub unchanged : (r : Refusal) → y.left.answer ≡ Err r → y.left.report ≡ y.report
   -- a listed one has its page in the report: each record tells a path that is faithful to the plain machine
   pub reported : is_page y.left.answer ≡ true → Reported (job_of (memory_by y) table_words (call_by y)) (call_by y) y.left
 

@@ -11,12 +11,12 @@ ghost use Rattle.serving.specs.Served.{table_words, reply, served_on};
 ghost use Rattle.serving.specs.Working.Reading.{call_read};
 
 use blocks::MOST_INPUTS;
+use calls::Answer;
 use calls::questions::CODE_WORDS;
-use calls::{Answer, refusal_number};
 use engine::explore;
+use jobs::Counts;
 use jobs::job_words::input_count;
 use jobs::reading::read_job;
-use jobs::{Counts, JobAnswer};
 use printing::{print_listing, print_refusal};
 use riscu::plain::Machine;
 
@@ -47,18 +47,15 @@ pub fn explore_read(
     )
 }
 
-// Reads a job, explores it and writes a page of its paths, or refuses it.
+// Reads a job, explores it and writes a page of its paths, or refuses it. The buffers stand here and in `counting`, as there is no heap.
 pub fn serve(job: &[u8], report: &mut [u8]) -> Answer
     ensures { reply result report.new ≡ served_on job report }
 {
     let mut code = [0u32; CODE_WORDS];
     let mut intervals = [0u64; 2 * MOST_INPUTS];
     let mut memory = [0u64; Machine::MEMORY_WORDS];
-    let answer = read_job(job, &mut code, &mut intervals, &mut memory);
-    match answer {
-        JobAnswer::Refused(r) => Answer::Refused(r),
-        JobAnswer::Read(counts) => explore_read(&code, &intervals, &memory, counts, report),
-    }
+    let counts = read_job(job, &mut code, &mut intervals, &mut memory)?;
+    explore_read(&code, &intervals, &memory, counts, report)
 }
 
 // The program's answer to a job, written at the start of `out`, as far as it fits; how many bytes it wrote.
@@ -67,12 +64,11 @@ pub fn respond(job: &[u8], report: &mut [u8], out: &mut [u8]) -> usize
     ensures size { result ≡ fitting (response_on job report) out.old }
     ensures bytes { report.new ≡ (served_on job report).report }
 {
-    let a = serve(job, report);
-    match a {
-        Answer::Refused(r) => print_refusal(refusal_number(r), out),
-        Answer::Page { count, more } => {
+    match serve(job, report) {
+        Err(r) => print_refusal(u64::from(r), out),
+        Ok(page) => {
             let inputs = input_count(job);
-            print_listing(report, inputs, count as usize, more, out)
+            print_listing(report, inputs, page.count as usize, page.more, out)
         }
     }
 }

@@ -14,7 +14,7 @@ use Rattle.calls.specs.Call.{Call, inputs_of, job_of, page}
 use Rattle.calls.specs.Engine.{Engine, Lent, Meets, Exchange, History}
 use Rattle.calls.specs.Together.{is_accepted, bytes_written}
 use Rattle.calls.specs.Done.{done_left}
-use Rattle.calls.specs.declared.Completion.TheVariants.{Done}
+use Rattle.std.specs.Prelude.{Ok}
 use Rattle.calls.proofs.Done.{left_done}
 use Rattle.demands.proofs.Accepted.{paths_fit_lem}
 use Rattle.demands.proofs.Demands.{history_fair}
@@ -35,8 +35,8 @@ use Rattle.sheets.proofs.Told.{sheet_told}
 written_printed : {n first : ℕ} {ps : List Path} → Writable n first ps → readable n (records first ps) ≡ true → PrintedAs n (records first ps) first ps
 written_printed {n} {first} {ps} w passes sheet room =
     left_done (sheet_questions c) (sheet_deed c) (both_yes c passes room)
-    ∙ ap (λ (size : ℕ). done_left (Done size) (sheet_deed c).after) (sym (text_length n (records first ps)))
-    ∙ ap (λ (text : List ℕ). done_left (Done (length text)) (text ++ drop (length text) sheet)) (sheet_told w)
+    ∙ ap (λ (size : ℕ). done_left (Ok size) (sheet_deed c).after) (sym (text_length n (records first ps)))
+    ∙ ap (λ (text : List ℕ). done_left (Ok (length text)) (text ++ drop (length text) sheet)) (sheet_told w)
   where
     c : SheetCall
     c = sheet_call_of n (records first ps) sheet

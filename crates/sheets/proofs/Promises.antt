@@ -13,7 +13,7 @@ use Rattle.listing.specs.First.{first}
 use Rattle.listing.proofs.First.{first_none}
 use Rattle.blocks.specs.Record.{most_inputs}
 use Rattle.calls.specs.Done.{done_left, Completes}
-use Rattle.calls.specs.declared.Completion.TheVariants.{Done}
+use Rattle.std.specs.Prelude.{Ok}
 use Rattle.calls.proofs.Done.{left_done, completes}
 use Rattle.printing.specs.Output.{fitted, fitting}
 use Rattle.printing.proofs.Outputs.{all_fits}
@@ -38,17 +38,17 @@ module _ (c : SheetCall) where
 
   -- the text written as far as it fits is then all of it
   pub left_printed : {l : List ℕ} {n : ℕ} → first (sheet_questions c) ≡ none → (l ≡ fitted (text_of c) c.sheet) × (n ≡ fitting (text_of c) c.sheet)
-      → done_left (Done n) l ≡ printed c
+      → done_left (Ok n) l ≡ printed c
   left_printed {l} {n} e (f, g) =
       let (text, size) = all_fits (text_of c) c.sheet (accepted_fits e).1 in
-      ap (λ (k : ℕ). done_left (Done k) l) (g ∙ size ∙ text_length c.inputs c.report)
-      ∙ ap (done_left (Done (length_of c))) (f ∙ text)
+      ap (λ (k : ℕ). done_left (Ok k) l) (g ∙ size ∙ text_length c.inputs c.report)
+      ∙ ap (done_left (Ok (length_of c))) (f ∙ text)
       ∙ sym (left_done (sheet_questions c) (sheet_deed c) e)
 
   all : Completes (sheet_questions c) (sheet_deed c) (printed c)
   all = completes (sheet_questions c) (sheet_deed c)
 
-  size_is : (n : ℕ) → (printed c).answer ≡ Done n → n ≡ length (text_of c)
+  size_is : (n : ℕ) → (printed c).answer ≡ Ok n → n ≡ length (text_of c)
   size_is n e = all.amount n e ∙ sym (text_length c.inputs c.report)
 
   pub prints_sheet : PrintsSheet c (printed c)

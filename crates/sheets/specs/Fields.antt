@@ -1,11 +1,10 @@
 -- No field of a sheet is cut, whatever bytes a report holds: its numbers are words, and MAX has 20 digits.
-use Rattle.std.specs.Prelude.{◌≡◌, List, [], ◌∷◌, ℕ, ◌+◌, ◌-◌, ◌*◌, ◌^◌, ◌≤◌, ◌<◌, length, drop}
+use Rattle.std.specs.Prelude.{◌≡◌, List, [], ◌∷◌, ℕ, ◌+◌, ◌-◌, ◌*◌, ◌^◌, ◌≤◌, ◌<◌, length, drop, Ok}
 use Rattle.boxes.specs.Boxes.{Interval, ◌∈◌}
 use Rattle.words.specs.Word.{max_word}
 use Rattle.blocks.specs.Said.{Said}
 use Rattle.calls.specs.Call.{Below}
 use Rattle.calls.specs.Done.{DoneLeft}
-use Rattle.calls.specs.declared.Completion.TheVariants.{Done}
 use Rattle.printing.specs.Printed.{digit, digits}
 use Rattle.reports.specs.Readable.{all_said}
 use Rattle.sheets.specs.Line.{field_columns, sheet_field, columns}
@@ -37,5 +36,5 @@ pub record LinesRight (s : Said) : Type 0 where
 
 -- when a call is done, every line is right
 pub record NoFieldCut (c : SheetCall) (l : DoneLeft) : Type 0 where
-  pub lines : (n : ℕ) → l.answer ≡ Done n → Below (2 ^ 8) c.report
+  pub lines : (n : ℕ) → l.answer ≡ Ok n → Below (2 ^ 8) c.report
       → (s : Said) → s ∈ all_said c.inputs c.report → LinesRight s

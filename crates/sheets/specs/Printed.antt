@@ -1,11 +1,10 @@
 -- What a call that prints a sheet promises: its refusals, what it writes, the columns of a line, and our own reports.
-use Rattle.std.specs.Prelude.{◌≡◌, List, ◌++◌, ℕ, ◌+◌, ◌-◌, ◌≤◌, length, take, drop}
+use Rattle.std.specs.Prelude.{◌≡◌, List, ◌++◌, ℕ, ◌+◌, ◌-◌, ◌≤◌, length, take, drop, Ok}
 use Rattle.listing.specs.Listing.{Path, listing}
 use Rattle.calls.specs.Call.{Call, inputs_of, job_of, page}
 use Rattle.calls.specs.Engine.{Exchange}
 use Rattle.calls.specs.Done.{DoneLeft, done_left, Completes}
 use Rattle.calls.specs.Together.{bytes_written}
-use Rattle.calls.specs.declared.Completion.TheVariants.{Done}
 use Rattle.sheets.specs.Line.{spaces, field_columns, line_columns, first_column, second_column, third_column, sheet_field}
 use Rattle.sheets.specs.Sheet.{sheet_length, SheetCall, sheet_call_of, text_of, length_of, sheet_questions, sheet_deed, printed}
 use Rattle.sheets.specs.Shown.{sheet_of}
@@ -36,13 +35,13 @@ pub record PrintsSheet (c : SheetCall) (l : DoneLeft) : Type 0 where
   -- the text's length is known before
   pub known : length (text_of c) ≡ length_of c
   -- done, the text stands at the start of the sheet, and a longer sheet keeps its rest
-  pub text : (n : ℕ) → l.answer ≡ Done n → take n l.list ≡ text_of c
-  pub rest : (n : ℕ) → l.answer ≡ Done n → drop n l.list ≡ drop n c.sheet
+  pub text : (n : ℕ) → l.answer ≡ Ok n → take n l.list ≡ text_of c
+  pub rest : (n : ℕ) → l.answer ≡ Ok n → drop n l.list ≡ drop n c.sheet
 
 -- on any sheet that is long enough, a report of n inputs is printed as the paths ps, numbered from first on
 abbrev pub PrintedAs : ℕ → List ℕ → ℕ → List Path → Type 0
 PrintedAs n report first ps = (sheet : List ℕ) → sheet_length n (length report) ≤ length sheet
-    → let text = sheet_of first ps in printed (sheet_call_of n report sheet) ≡ done_left (Done (length text)) (text ++ drop (length text) sheet)
+    → let text = sheet_of first ps in printed (sheet_call_of n report sheet) ≡ done_left (Ok (length text)) (text ++ drop (length text) sheet)
 
 -- the page that an accepted call on inputs wrote, and a complete report of a job
 abbrev pub PagePrinted : List ℕ → ℕ → Exchange → Type 0

@@ -6,14 +6,15 @@ ghost use Rattle.calls.specs.Questions.{space_fits};
 ghost use Rattle.sheets.specs.Sheet.{sheet_length, sheet_bytes, sheet_questions, sheet_call_lent};
 
 use blocks::report::record_bytes;
-use calls::{Questioned, Refusal};
+use calls::Refusal;
+use calls::questions::require;
 use reports::asking::is_readable;
 use words::MAX;
 
 // 72 columns and a line feed.
 pub(crate) const LINE_BYTES: usize = 73;
 
-// MAX: no sheet has this length, which is no whole number of lines.
+// MAX: no sheet has this length, which is no whole number of lines. It is document 02's number, which C is given.
 const TOO_LONG: usize = MAX as usize;
 
 // The length of a sheet, or MAX if it is no word.
@@ -36,18 +37,14 @@ fn sheet_fits(inputs: u64, report: &[u8], sheet: &[u8]) -> bool
     ensures { result ≡ space_fits (sheet_length inputs (length report.now)) (length sheet.now) }
 {
     let bytes = sheet_bytes(inputs, report.len());
-    (bytes < TOO_LONG) & (bytes <= sheet.len())
+    bytes < TOO_LONG && bytes <= sheet.len()
 }
 
 // The first no of questions 12 and 14, or that both have the answer yes.
-pub(crate) fn ask_sheet(inputs: u64, report: &[u8], sheet: &[u8]) -> Questioned
+#[tactic(auto, unfolding(crate::specs::Sheet::sheet_questions, listing::specs::First::first))]
+pub(crate) fn ask_sheet(inputs: u64, report: &[u8], sheet: &[u8]) -> Result<(), Refusal>
     ensures { refusal_in result ≡ first (sheet_questions (sheet_call_lent inputs report sheet)) }
 {
-    if !is_readable(inputs, report) {
-        return Questioned::No(Refusal::Records);
-    }
-    if !sheet_fits(inputs, report, sheet) {
-        return Questioned::No(Refusal::Space);
-    }
-    Questioned::AllYes
+    require(is_readable(inputs, report), Refusal::Records)?;
+    require(sheet_fits(inputs, report, sheet), Refusal::Space)
 }

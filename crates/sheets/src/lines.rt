@@ -24,11 +24,12 @@ const SECOND_COLUMN: usize = 24;
 
 const THIRD_COLUMN: usize = 48;
 
-const SPACE: u8 = 32;
+const SPACE: u8 = b' ';
 
-const LINE_FEED: u8 = 10;
+const LINE_FEED: u8 = b'\n';
 
 // Writes a number's digits, from the last one back, so that they end where the field that begins at `column` does.
+// A `while`: how many digits there are shows only at the first one.
 fn set_field(text: &mut [u8], column: usize, n: u64)
     requires { (1 ≤ column) × (column - 1 + field_columns ≤ length text.old) }
     ensures { text.new ≡ put text.old (column - 1 + field_columns - length (digits n)) (digits n) }
@@ -37,10 +38,10 @@ fn set_field(text: &mut [u8], column: usize, n: u64)
     let mut rest = n;
     while rest >= 10 {
         k -= 1;
-        text[k] = 48 + (rest % 10) as u8;
+        text[k] = b'0' + (rest % 10) as u8;
         rest = rest / 10;
     }
-    text[k - 1] = 48 + rest as u8;
+    text[k - 1] = b'0' + rest as u8;
 }
 
 // A line: spaces, and in them the fields.
@@ -55,18 +56,16 @@ fn put_sheet_line(out: &mut [u8], at: usize, a: u64, b: u64, c: u64) -> usize
     put_text(out, at, &text)
 }
 
-// The inputs of a record, a line for each.
+// The inputs of a record, a line for each. A loop shared with `printing` would take a closure that writes on `out`, and its contract.
 fn put_inputs(report: &[u8], inputs: usize, k: usize, out: &mut [u8], at: usize) -> usize
     requires { (k < records_in inputs report.now) × (inputs ≤ most_inputs) }
     ensures { Writes out at result (input_lines 0 (said_at inputs report.now k).box) }
 {
     let mut p = at;
-    let mut i: usize = 0;
-    while i < inputs {
+    for i in 0..inputs {
         let low = input_low(report, inputs, k, i);
         let high = input_high(report, inputs, k, i);
         p = put_sheet_line(out, p, i as u64, low, high);
-        i += 1;
     }
     p
 }
@@ -88,12 +87,9 @@ pub(crate) fn put_sheet(report: &[u8], inputs: usize, out: &mut [u8]) -> usize
     requires { inputs ≤ most_inputs }
     ensures { Prints out result (sheet_text inputs report.now) }
 {
-    let n = records_in(report, inputs);
     let mut p: usize = 0;
-    let mut k: usize = 0;
-    while k < n {
+    for k in 0..records_in(report, inputs) {
         p = put_record(report, inputs, k, out, p);
-        k += 1;
     }
     p
 }

@@ -10,17 +10,16 @@ use Rattle.boxes.proofs.Lists.{by_test}
 use Rattle.riscu.specs.Machine.{bad_pc, fetch}
 use Rattle.riscu.specs.declared.At.{At}
 use Rattle.riscu.specs.declared.Instruction.{Instruction}
-use Rattle.riscu.specs.declared.Decoded.{Decoded}
-use Rattle.riscu.specs.declared.Decoded.TheVariants.{Row, NoRow}
+use Rattle.std.specs.Prelude.{Option, Some, None}
 use Rattle.listing.specs.Ending.{points, writes}
 use Rattle.decide.specs.Working.Corner.{corner_view, verdict, same_class, onward, unless_ends, row_decision, decision}
 use Rattle.decide.specs.declared.Limits.{Limits}
 use Rattle.decide.specs.declared.Used.{Used}
-use Rattle.decide.specs.declared.Verdict.{Verdict}
-use Rattle.decide.specs.declared.Verdict.TheVariants.{Ends, Passes}
+use Rattle.listing.specs.declared.End.{End}
+use Rattle.std.specs.Prelude.{Result, Ok, Err}
 use Rattle.decide.specs.declared.Decision.{Decision}
 use Rattle.decide.specs.declared.Decision.TheVariants.{Ended, Steps, Forks}
-use Rattle.lockstep.specs.Working.LockStep.{Machines}
+use Rattle.lockstep.specs.declared.Machines.{Machines}
 use Rattle.lockstep.specs.declared.Corners.{Corners}
 use Rattle.straight.specs.Working.Stepped.{Decided}
 
@@ -39,15 +38,15 @@ module _ (entries : ℕ) (left : Bool) where
       go true t = omega (arith, ltb-false entries (writes left i + 0) t)
       go false t = tt
 
-  unless_within : (d : Decision) (v : Verdict) → Within d → Within (unless_ends d v)
+  unless_within : (d : Decision) (v : Result Unit End) → Within d → Within (unless_ends d v)
   unfolding unless_ends
-  unless_within d (Ends e) k = tt
-  unless_within d Passes k = k
+  unless_within d (Err e) k = tt
+  unless_within d (Ok x) k = k
 
-  row_within : (l h : List ℕ) (d : Decoded) → Within (row_decision entries left l h d)
+  row_within : (l h : List ℕ) (d : Option Instruction) → Within (row_decision entries left l h d)
   unfolding row_decision
-  row_within l h NoRow = tt
-  row_within l h (Row i) =
+  row_within l h None = tt
+  row_within l h (Some i) =
       unless_within (onward entries left (same_class i l h) i) (verdict (points (corner_view l h) i)) (onward_within (same_class i l h) i)
 
 decision_within : (code : List ℕ) (m : Limits) (u : Used) (a : At) (l h : List ℕ)

@@ -4,12 +4,14 @@ use mathlib.Core.List.{List}
 use Prim.Native.Nat.{ℕ, ◌+◌, ◌≤◌}
 use native.Mathlib.Omega.{arith}
 use Rattle.boxes.specs.Boxes.{Choice}
-use Rattle.riscu.specs.declared.Decoded.{Decoded}
+use Rattle.std.specs.Prelude.{Option}
+use Rattle.riscu.specs.declared.Instruction.{Instruction}
 use Rattle.decide.specs.declared.Limits.{Limits}
 use Rattle.decide.specs.declared.Used.{Used}
 use Rattle.riscu.specs.Machine.{fetch}
-use Rattle.lockstep.specs.Working.LockStep.{Pair, Machines, both, advanced_by}
+use Rattle.lockstep.specs.Working.LockStep.{Pair, both, advanced_by}
 use Rattle.lockstep.specs.declared.Corners.{Corners}
+use Rattle.lockstep.specs.declared.Machines.{Machines}
 use Rattle.lockstep.proofs.LockStep.{one_more}
 use Rattle.straight.specs.Working.Stepped.{Place, place, StraightRun, none, more, Onward}
 
@@ -32,7 +34,7 @@ module _ {code : List ℕ} {m : Limits} {p : Place} where
   runs_onward ls hs none = λ o e. e
   runs_onward ls hs (more {a = a} {x = x} r d) = λ o e.
       one_more ls hs code o _ (both a x) _ (runs_onward ls hs r o e)
-      (d.moves ls hs ∙ ap (λ (v : Decoded). advanced_by ls hs v (both a x)) (sym d.row))
+      (d.moves ls hs ∙ ap (λ (v : Option Instruction). advanced_by ls hs v (both a x)) (sym d.row))
 
 -- and another step
 pub onward_one : (ls hs : Choice) (code : List ℕ) (k n : ℕ) (p q t : Pair) → Onward ls hs code k p n q

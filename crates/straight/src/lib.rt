@@ -10,11 +10,11 @@ pub mod steps;
 use decide::Used;
 use lockstep::Corners;
 
-// What became of it: taken, with where the corners are then and the trace entries that it took, or left.
+// A straight step that was taken: where the corners are then, and the trace entries that it took.
 #[derive(Clone, Copy)]
-pub enum Straight {
-    Taken { at: Corners, writes: usize },
-    Left,
+pub struct Taken {
+    pub at: Corners,
+    pub writes: usize,
 }
 
 // Where straight steps in a row have come to: what the group has used then, and where the corners are.

@@ -1,75 +1,46 @@
 // Both corners from the starting machine alone: nothing of another path can be left in them.
 ghost use Rattle.std.specs.Prelude.{◌≡◌, ◌<◌, ◌≤◌};
-ghost use Rattle.riscu.specs.Lent.{lent};
 ghost use Rattle.riscu.specs.Machine.{fetch};
-ghost use Rattle.lockstep.specs.Working.LockStep.{both, lent_machines, advanced_by, lock_steps, starting};
+ghost use Rattle.lockstep.specs.Working.LockStep.{both, advanced_by, lock_steps, starting};
 ghost use Rattle.straight.specs.Working.Stepped.{Onward};
 
-use crate::steps::straight_steps;
+use crate::steps::{straight_steps, word_at};
 use decide::{Limits, Used};
-use lockstep::Corners;
-use lockstep::advancing::{advance, advance_read};
-use lockstep::tags::clear;
-use riscu::Decoded;
+use lockstep::{Corners, Machines};
+use riscu::Instruction;
 use riscu::decoder::decode;
-use riscu::plain::{Memory, Registers};
+use riscu::plain::Memory;
 use runs::running::begin;
 
 // The step of what a word is, at both corners; where it is no instruction, nothing moves.
+#[tactic(auto, unfolding(lockstep::specs::Working::LockStep::advanced_by))]
 fn advance_by(
-    d: Decoded,
-    low: &mut Registers,
-    lowmem: &mut Memory,
-    high: &mut Registers,
-    highmem: &mut Memory,
-    tags: &mut Registers,
-    tagmem: &mut Memory,
+    d: Option<Instruction>,
+    m: &mut Machines,
     lows: &[u64],
     highs: &[u64],
     at: Corners,
 ) -> Corners
-    ensures { let m = lent_machines low lowmem high highmem tags tagmem in
-        both result m.after ≡ advanced_by (lent lows) (lent highs) d (both at m.before) }
+    ensures { both result m.new ≡ advanced_by lows.now highs.now d (both at m.old) }
 {
-    let Decoded::Row(i) = d else {
+    let Some(i) = d else {
         return at;
     };
-    advance(i, low, lowmem, high, highmem, tags, tagmem, lows, highs, at)
+    m.advance(i, lows, highs, at)
 }
 
 // The step that the code has at the low corner's pc, at both corners; where it has none, nothing moves. Of those that straight steps
 // leave most are reads, and these need no instruction.
-fn advance_next(
-    code: &[u32],
-    low: &mut Registers,
-    lowmem: &mut Memory,
-    high: &mut Registers,
-    highmem: &mut Memory,
-    tags: &mut Registers,
-    tagmem: &mut Memory,
-    lows: &[u64],
-    highs: &[u64],
-    at: Corners,
-) -> Corners
-    ensures { let m = lent_machines low lowmem high highmem tags tagmem in
-        both result m.after ≡ advanced_by (lent lows) (lent highs) (fetch (lent code) at.low.pc) (both at m.before) }
+fn advance_next(code: &[u32], m: &mut Machines, lows: &[u64], highs: &[u64], at: Corners) -> Corners
+    ensures { both result m.new ≡ advanced_by lows.now highs.now (fetch code.now at.low.pc) (both at m.old) }
 {
-    let l = at.low;
-    let pc = l.pc;
-    let n = code.len() as u64;
-    if pc % 4 != 0 {
+    let Some(word) = word_at(code, at.low.pc) else {
         return at;
-    }
-    if n <= pc / 4 {
-        return at;
-    }
-    let k = (pc / 4) as usize;
-    let word = code[k];
+    };
     if word == 115 {
-        return advance_read(low, lowmem, high, highmem, tags, tagmem, lows, highs, at);
+        return m.advance_read(lows, highs, at);
     }
-    let d = decode(word);
-    advance_by(d, low, lowmem, high, highmem, tags, tagmem, lows, highs, at)
+    advance_by(decode(word), m, lows, highs, at)
 }
 
 // Where both corners are after so many steps.
@@ -82,44 +53,34 @@ pub struct Advanced {
 // Straight steps in a row, and then another one, if some are left. One entry for each step is room for all of them.
 fn some_steps(
     code: &[u32],
-    steps: usize,
     n: usize,
-    low: &mut Registers,
-    lowmem: &mut Memory,
-    high: &mut Registers,
-    highmem: &mut Memory,
-    tags: &mut Registers,
-    tagmem: &mut Memory,
+    m: &mut Machines,
     lows: &[u64],
     highs: &[u64],
-    from: Corners,
+    from: Advanced,
 ) -> Advanced
-    requires { steps < n }
-    ensures steps_lt_steps { (steps < result.steps) × (result.steps ≤ n) }
-    ensures fact { let m = lent_machines low lowmem high highmem tags tagmem in
-        Onward (lent lows) (lent highs) (lent code) steps (both from m.before) result.steps (both result.at m.after) }
+    requires { from.steps < n }
+    ensures steps_lt_steps { (from.steps < result.steps) × (result.steps ≤ n) }
+    ensures fact { Onward lows.now highs.now code.now from.steps (both from.at m.old) result.steps (both result.at m.new) }
 {
     let limits = Limits {
         steps: n,
         entries: n,
         inputs: 0,
     };
-    let used = Used { steps, entries: 0 };
-    let r = straight_steps(
-        code, limits, used, low, lowmem, high, highmem, tags, tagmem, from,
-    );
-    let u = r.used;
-    let at = r.at;
-    let done = u.steps;
-    if n <= done {
-        return Advanced { steps: done, at };
+    let used = Used {
+        steps: from.steps,
+        entries: 0,
+    };
+    let ran = straight_steps(code, limits, used, m, from.at);
+    let steps = ran.used.steps;
+    if n <= steps {
+        return Advanced { steps, at: ran.at };
     }
-    let to = advance_next(
-        code, low, lowmem, high, highmem, tags, tagmem, lows, highs, at,
-    );
+    let at = advance_next(code, m, lows, highs, ran.at);
     Advanced {
-        steps: done + 1,
-        at: to,
+        steps: steps + 1,
+        at,
     }
 }
 
@@ -127,29 +88,19 @@ fn some_steps(
 fn proceed_both(
     code: &[u32],
     n: usize,
-    low: &mut Registers,
-    lowmem: &mut Memory,
-    high: &mut Registers,
-    highmem: &mut Memory,
-    tags: &mut Registers,
-    tagmem: &mut Memory,
+    m: &mut Machines,
     lows: &[u64],
     highs: &[u64],
     from: Corners,
 ) -> Corners
-    ensures { let m = lent_machines low lowmem high highmem tags tagmem in
-        both result m.after ≡ lock_steps (lent lows) (lent highs) (lent code) n (both from m.before) }
+    ensures { both result m.new ≡ lock_steps lows.now highs.now code.now n (both from m.old) }
 {
-    let mut at = from;
-    let mut k: usize = 0;
-    while k < n {
-        let r = some_steps(
-            code, k, n, low, lowmem, high, highmem, tags, tagmem, lows, highs, at,
-        );
-        at = r.at;
-        k = r.steps;
+    let mut so_far = Advanced { steps: 0, at: from };
+    // a turn takes as many steps as are straight, and one more
+    while so_far.steps < n {
+        so_far = some_steps(code, n, m, lows, highs, so_far);
     }
-    at
+    so_far.at
 }
 
 // n steps of both corners from the starting machine, with memory as lent.
@@ -157,23 +108,14 @@ pub fn replay(
     code: &[u32],
     memory: &Memory,
     n: usize,
-    low: &mut Registers,
-    lowmem: &mut Memory,
-    high: &mut Registers,
-    highmem: &mut Memory,
-    tags: &mut Registers,
-    tagmem: &mut Memory,
+    m: &mut Machines,
     lows: &[u64],
     highs: &[u64],
 ) -> Corners
-    ensures { let m = lent_machines low lowmem high highmem tags tagmem in
-        both result m.after ≡ lock_steps (lent lows) (lent highs) (lent code) n (starting (lent memory)) }
+    ensures { both result m.new ≡ lock_steps lows.now highs.now code.now n (starting memory.now) }
 {
-    let a = begin(memory, low, lowmem);
-    let b = begin(memory, high, highmem);
-    clear(tags, tagmem);
-    let from = Corners { low: a, high: b };
-    proceed_both(
-        code, n, low, lowmem, high, highmem, tags, tagmem, lows, highs, from,
-    )
+    let low = begin(memory, &mut m.low, &mut m.lowmem);
+    let high = begin(memory, &mut m.high, &mut m.highmem);
+    m.clear_tags();
+    proceed_both(code, n, m, lows, highs, Corners { low, high })
 }

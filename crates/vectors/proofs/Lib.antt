@@ -1,5 +1,3 @@
--- The laws that the reader of test vectors is proved by, and one for those who count lines.
---     Steps       what one more byte does to the number and to the line
---     Counting    a line counts at most once
+-- The laws that the reader of test vectors is proved by.
+--     Steps       what one more byte does to the number, and where a line ends
 pub mod Steps
-pub mod Counting

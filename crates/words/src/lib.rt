@@ -7,7 +7,7 @@ ghost use Rattle.std.specs.Prelude.{◌≡◌, ◌+◌, ◌-◌, ◌*◌, ◌/�
 ghost use Rattle.words.specs.Word.{size, word, signed, widen};
 
 // The greatest word.
-pub const MAX: u64 = 18446744073709551615;
+pub const MAX: u64 = u64::MAX;
 
 // The 128 bits of a product.
 #[derive(Clone, Copy)]
@@ -16,48 +16,38 @@ pub struct Halves {
     pub high: u64,
 }
 
-// Column by column in base 2^32.
+// The whole product.
 pub fn product(u: u64, v: u64) -> Halves
     ensures { (result.low ≡ u * v % 2 ^ 64) × (result.high ≡ u * v / 2 ^ 64) }
 {
-    let u0 = u % 4294967296;
-    let u1 = u / 4294967296;
-    let v0 = v % 4294967296;
-    let v1 = v / 4294967296;
-    let w0 = u0 * v0;
-    let t = u1 * v0 + w0 / 4294967296;
-    let w1 = t % 4294967296 + u0 * v1;
-    let high = u1 * v1 + t / 4294967296 + w1 / 4294967296;
-    let low = w1 % 4294967296 * 4294967296 + w0 % 4294967296;
+    let (low, high) = u.carrying_mul(v, 0);
     Halves { low, high }
 }
 
 pub fn add(a: u64, b: u64) -> u64
     ensures { result ≡ word (a + b) }
 {
-    std::num::wrapping_add_u64(a, b)
+    a.wrapping_add(b)
 }
 
-// The two's complement of b, added.
 pub fn sub(a: u64, b: u64) -> u64
     ensures { result ≡ word (a + (size - b)) }
 {
-    let complement = std::num::wrapping_add_u64(MAX - b, 1);
-    std::num::wrapping_add_u64(a, complement)
+    a.wrapping_sub(b)
 }
 
 // The quotient that REMU sorts by, and that guesses use: 0 where b is 0.
 pub fn quotient(a: u64, b: u64) -> u64
     ensures { result ≡ (if nat_eq b 0 then 0 else a / b) }
 {
-    if b == 0 { 0 } else { a / b }
+    a.checked_div(b).unwrap_or(0)
 }
 
 // 1 where a is below b, and otherwise 0.
 pub fn below(a: u64, b: u64) -> u64
     ensures { result ≡ (if nat_lt a b then 1 else 0) }
 {
-    if a < b { 1 } else { 0 }
+    u64::from(a < b)
 }
 
 // The number that `width` bits hold in two's complement.
@@ -78,9 +68,5 @@ pub fn signed(width: usize, n: usize) -> i64
 pub fn widen(z: i64) -> u64
     ensures { result ≡ widen z }
 {
-    if z < 0 {
-        MAX - (-1 - z) as u64
-    } else {
-        z as u64
-    }
+    z.cast_unsigned()
 }

@@ -2,16 +2,20 @@
 -- Assumes nothing.
 use mathlib.Core.Path.{◌≡◌, refl, ap, ◌∙◌}
 use mathlib.Core.List.{List, [], ◌∷◌}
-use Prim.Native.Nat.{ℕ, suc, ◌+◌, ◌*◌, ◌/◌, ◌^◌, ◌<◌, ◌≤◌}
+use Prim.Native.Nat.{ℕ, suc, ◌+◌, ◌*◌, ◌^◌, ◌<◌, ◌≤◌}
 use native.Mathlib.Numerals.{add-one}
 use native.Mathlib.Omega.{arith}
-use lib.ListN.{length, get_or, set, drop, length-set, length-map, drop_of_length-le, get_or-map}
-use lib.Seq.{sets, set_comm, get_or-set_other, drop-cons}
+use denote.Ref.{Bor}
+use Rattle.std.specs.declared.slice.ChunksExact.{ChunksExact}
+use Rattle.std.specs.declared.option.Option.TheVariants.{Some, None}
+use Rattle.std.specs.Slice.Iter.{chunks_exact_size, chunks_exact_rest, chunks_exact_steps}
+use lib.ListN.{length, get_or, set, length-set, length-map, get_or-map}
+use lib.Seq.{sets, set_comm, get_or-set_other}
 use Rattle.boxes.specs.Boxes.{Interval, Box, ◌⋯◌, lows, highs}
 use Rattle.blocks.specs.Record.{most_inputs}
 use Rattle.blocks.proofs.Reading.{Words}
 use Rattle.calls.specs.Call.{box_of}
-use Rattle.calls.proofs.Pairs.{pairs_length, pair_at, pair_is}
+use Rattle.calls.proofs.Pairs.{pairs_length, pair_at, box_short, box_more}
 use Rattle.jobs.specs.Header as header
 use Rattle.writing.specs.Form.{stored_inputs}
 use Rattle.writing.proofs.Stores.{set_below}
@@ -71,14 +75,32 @@ module _ (v : List ℕ) where
   pub high_end : (i : ℕ) → i < length (box_of v) → get_or (highs (box_of v)) i 0 ≡ get_or v (2 * i + 1) 0
   high_end i h = get_or-map (λ (d : Interval). d.high) (box_of v) i (0 ⋯ 0) ∙ ap (λ (d : Interval). d.high) (pair_at v i h)
 
-  -- the loop that stores them: what is still to be stored onto the words at hand gives the result
+-- A turn of the loop that stores them: what is still to be stored onto the words at hand gives the result.
+module _ (n : ℕ) (all : List ℕ) where
+  pub record Storing (ws : List ℕ) (i : ℕ) (s : ChunksExact ℕ) : Type 0 where
+    pub pairs_of : chunks_exact_size s ≡ 2
+    pub few : i + length (box_of (chunks_exact_rest s)) ≤ most_inputs
+    pub still : stored_inputs n i (box_of (chunks_exact_rest s)) ws ≡ all
 
-  pub inputs_turn : (n i : ℕ) (ws : List ℕ) → i < length v / 2
-      → stored_inputs n (i + 1) (drop (i + 1) (box_of v)) (set (set ws (header.low_at n i) (get_or v (2 * i) 0)) (header.high_at n i) (get_or v (2 * i + 1) 0))
-      ≡ stored_inputs n i (drop i (box_of v)) ws
-  unfolding stored_inputs
-  inputs_turn n i ws h = rw (add-one i, drop-cons (box_of v) i (0 ⋯ 0) (omega (arith, pairs_length v)), pair_is v i h)
+  pub storing_none : {ws : List ℕ} (s : ChunksExact ℕ) (v : List ℕ) → chunks_exact_size s ≡ 2 → chunks_exact_rest s ≡ v → length v ≤ 2 * most_inputs
+      → stored_inputs n 0 (box_of v) ws ≡ all → Storing ws 0 s
+  storing_none s v two e few still = record { pairs_of = two; few = rw e (omega (arith, pairs_length v)); still = rw e still }
 
-  pub inputs_done : (n i : ℕ) (ws : List ℕ) → length v / 2 ≤ i → stored_inputs n i (drop i (box_of v)) ws ≡ ws
+  pub storing_more : {ws : List ℕ} {i : ℕ} {s t : ChunksExact ℕ} (p : Bor (List ℕ)) → Storing ws i s → chunks_exact_steps s (Some p) t
+      → Storing (set (set ws (header.low_at n i) (get_or p.now 0 0)) (header.high_at n i) (get_or p.now 1 0)) (i + 1) t
   unfolding stored_inputs
-  inputs_done n i ws h = let past : length (box_of v) ≤ i = omega (arith, pairs_length v) in rw (drop_of_length-le (box_of v) past)
+  storing_more {ws} {i} {s} {t} p c h =
+      let more = ap box_of h.1.0 ∙ box_more p.now (chunks_exact_rest t) (h.1.1 ∙ c.pairs_of) in
+      record {
+        pairs_of = h.0 ∙ c.pairs_of;
+        few = omega (arith, ap (λ (b : Box). length b) more, c.few);
+        still = rw (add-one i) (rw more at c.still);
+      }
+
+  pub storing_done : {ws : List ℕ} {i : ℕ} {s t : ChunksExact ℕ} → Storing ws i s → chunks_exact_steps s None t → ws ≡ all
+  unfolding stored_inputs
+  storing_done {ws} {i} {s} c h = none (box_of (chunks_exact_rest s)) (box_short (chunks_exact_rest s) (omega (arith, h.1.0, c.pairs_of))) ∙ c.still
+    where
+      none : (b : Box) → length b ≡ 0 → ws ≡ stored_inputs n i b ws
+      none [] e = refl
+      none (v ∷ b) e = absurd (omega arith)

@@ -1,8 +1,7 @@
 -- The numbers at the border say all of a call's answer.
 -- Assumes nothing.
 use mathlib.Core.Path.{refl}
-use Rattle.calls.specs.Done.{refusal_from}
-use Rattle.calls.specs.declared.Completion.{Completion}
+use Rattle.calls.specs.Done.{Completion, refusal_from}
 use Rattle.calls.proofs.Numbers.{says_refusal}
 use Rattle.writing.specs.Write.{write_outcome}
 use Rattle.writing.specs.Written.{WriteInNumbers}

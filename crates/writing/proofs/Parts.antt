@@ -1,12 +1,17 @@
 -- The blocks of a part: how many bytes they are, which words they hold, that every check agrees, and how they come to be written.
 -- Assumes nothing.
-use mathlib.Core.Path.{◌≡◌, refl, sym, ◌∙◌}
-use mathlib.Core.List.{List, ◌++◌, append_assoc, flat_map}
-use Prim.Native.Nat.{ℕ, zero, suc, ◌+◌, ◌-◌, ◌*◌, ◌/◌, ◌%◌, ◌^◌, ◌≤◌, ◌<◌}
+use mathlib.Core.Path.{◌≡◌, refl, sym, ap, ◌∙◌}
+use mathlib.Core.List.{List, [], ◌∷◌, ◌++◌, append_assoc, flat_map}
+use Prim.Native.Nat.{ℕ, zero, suc, min, ◌+◌, ◌-◌, ◌*◌, ◌/◌, ◌%◌, ◌^◌, ◌≤◌, ◌<◌}
 use native.Mathlib.Numerals.{add-one}
 use native.Mathlib.Omega.{arith}
+use denote.Ref.{Bor}
+use Rattle.std.specs.declared.slice.Chunks.{Chunks}
+use Rattle.std.specs.declared.option.Option.TheVariants.{Some, None}
+use Rattle.std.specs.Slice.Iter.{chunks_size, chunks_rest, chunks_steps}
+use Rattle.std.proofs.lemmas.List.{drop-drop}
 use lib.ListN.{length, get_or, take, drop, length-append, length-take, length-drop}
-use lib.Seq.{take_all, get_or-take, get_or-drop}
+use lib.Seq.{get_or-take, get_or-drop}
 use Rattle.boxes.specs.Boxes.{from}
 use Rattle.blocks.specs.Block.{block_words, block_bytes, payload_words, word_at, checks_agree}
 use Rattle.blocks.specs.Working.Writing.{put}
@@ -65,10 +70,40 @@ module _ (ws : List ℕ) where
         let z : n - b ≡ 0 = omega arith in
         sym (put_none bs (at + b * block_bytes)) ∙ rw z at p.2
 
--- the last words, of which there are at most 63
-pub rest_words : (ws : List ℕ) (first : ℕ) → length ws ≤ first + payload_words → take (length ws - first) (drop first ws) ≡ take payload_words (drop first ws)
-rest_words ws first l =
-    take_all (length ws - first) (drop first ws) (rw length-drop (omega arith)) ∙ sym (take_all payload_words (drop first ws) (rw length-drop (omega arith)))
+-- a chunk is the front of the words that are left
+chunk_front : (n : ℕ) (p r : List ℕ) → length p ≡ min n (length (p ++ r)) → (p ≡ take n (p ++ r)) × (r ≡ drop n (p ++ r))
+chunk_front zero [] r e = (refl, refl)
+chunk_front zero (x ∷ p) r e = absurd (omega arith)
+chunk_front (suc n) [] [] e = (refl, refl)
+chunk_front (suc n) [] (y ∷ r) e = absurd (omega arith)
+chunk_front (suc n) (x ∷ p) r e =
+    let h = chunk_front n p r (omega arith) in
+    (ap (λ (l : List ℕ). x ∷ l) h.0, h.1)
+
+-- the chunks of 63 words that are left when b were taken
+module _ (ws : List ℕ) where
+  pub record Chunked (b : ℕ) (s : Chunks ℕ) : Type 0 where
+    pub most : chunks_size s ≡ payload_words
+    pub left : chunks_rest s ≡ drop (b * payload_words) ws
+
+  pub chunk_more : {b : ℕ} {s t : Chunks ℕ} (p : Bor (List ℕ)) → Chunked b s → chunks_steps s (Some p) t
+      → (p.now ≡ take payload_words (drop (b * payload_words) ws)) × (b < blocks_for (length ws)) × Chunked (b + 1) t
+  chunk_more {b} {s} {t} p c h =
+      let r = chunks_rest t in
+      let few : length p.now ≡ min payload_words (length (p.now ++ r)) = rw (c.most, h.1.0) at h.1.1 in
+      let e = sym h.1.0 ∙ c.left in
+      let f = chunk_front payload_words p.now r few in
+      let next : (b + 1) * payload_words ≡ b * payload_words + payload_words = omega arith in (
+        f.0 ∙ ap (λ (l : List ℕ). take payload_words l) e,
+        omega (arith, h.1.2, ap length c.left, length-drop (b * payload_words) ws),
+        record {
+          most = h.0 ∙ c.most;
+          left = f.1 ∙ ap (λ (l : List ℕ). drop payload_words l) e ∙ rw next (drop-drop payload_words (b * payload_words) ws);
+        },
+      )
+
+  pub chunk_end : {b : ℕ} {s t : Chunks ℕ} → Chunked b s → chunks_steps s None t → blocks_for (length ws) ≤ b
+  chunk_end {b} c h = omega (arith, h.1.0, ap length c.left, length-drop (b * payload_words) ws)
 
 -- words below 2^64
 module _ (ws : List ℕ) (words : Words ws) where

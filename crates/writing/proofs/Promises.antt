@@ -9,6 +9,7 @@ use Prim.Native.Nat.{ℕ, ◌≤◌, ◌<◌}
 use native.Mathlib.Omega.{arith}
 use borrow.Author.Tests.{le-leb, lt-leb}
 use lib.ListN.{length, drop}
+use Rattle.std.specs.Prelude.{Ok, Err}
 use lib.Seq.{take-append_seam, drop-append_seam}
 use Rattle.boxes.proofs.Lists.{by_test}
 use Rattle.listing.specs.First.{first}
@@ -17,7 +18,6 @@ use Rattle.calls.specs.Questions.{Question, ◌otherwise◌, space_fits}
 use Rattle.calls.specs.Done.{DoneLeft, done_left}
 use Rattle.calls.specs.declared.Refusal.{Refusal}
 use Rattle.calls.specs.declared.Refusal.TheVariants.{Space}
-use Rattle.calls.specs.declared.Completion.TheVariants.{Refused, Done}
 use Rattle.calls.proofs.Asked.{yes_on}
 use Rattle.calls.proofs.Done.{left_refused, left_done, refused_first, completes}
 use Rattle.jobs.specs.Job.{JobRead}
@@ -40,7 +40,7 @@ other_refusal qs q r d = (λ e. go (first qs) refl e, first_stays qs (q ∷ []))
         (λ y. let z : none ≡ some r = passes ∙ goes q [] y ∙ last in let w : ◌≡◌ {A = ℕ} 0 1 = cc in absurd (omega arith))
 
 module _ (c : WriteCall) where
-  pub value_refused : {r : Refusal} → values_refusal c.values ≡ some r → job_written c ≡ done_left (Refused r) c.space
+  pub value_refused : {r : Refusal} → values_refusal c.values ≡ some r → job_written c ≡ done_left (Err r) c.space
   unfolding job_written
   value_refused e = left_refused (write_questions c) (write_deed c) (first_stays (value_questions c.values) _ e)
 
@@ -48,21 +48,21 @@ module _ (c : WriteCall) where
     abbrev space : Question
     space = space_fits (form_length c.values) (length c.space) otherwise Space
 
-    pub space_refused : length c.space < form_length c.values → job_written c ≡ done_left (Refused Space) c.space
+    pub space_refused : length c.space < form_length c.values → job_written c ≡ done_left (Err Space) c.space
     unfolding job_written
     space_refused l =
         left_refused (write_questions c) (write_deed c)
         (first_goes (value_questions c.values) (space ∷ []) e ∙ sym (stops space [] (ap not (lt-leb (form_length c.values) (length c.space) l))))
 
     pub space_written : form_length c.values ≤ length c.space
-        → job_written c ≡ done_left (Done (form_length c.values)) (job_form c.values ++ drop (form_length c.values) c.space)
+        → job_written c ≡ done_left (Ok (form_length c.values)) (job_form c.values ++ drop (form_length c.values) c.space)
     unfolding job_written
     space_written l =
         left_done (write_questions c) (write_deed c)
         (first_goes (value_questions c.values) (space ∷ []) e ∙ sym (passes ∙ yes_on Space [] (le-leb (form_length c.values) (length c.space) l)))
 
   -- refused by a question on the values exactly if that is their first no
-  pub refused_value : (r : Refusal) → r ≢ Space → (values_refusal c.values ≡ some r) ↔ ((job_written c).answer ≡ Refused r)
+  pub refused_value : (r : Refusal) → r ≢ Space → (values_refusal c.values ≡ some r) ↔ ((job_written c).answer ≡ Err r)
   unfolding job_written
   refused_value r d = (
     λ e. ap (λ (l : DoneLeft). l.answer) (value_refused e),
@@ -82,5 +82,5 @@ module _ (c : WriteCall) where
 
 -- values that pass, in a space that is long enough
 pub passes_written : (j : JobRead) → Passes j → (space : List ℕ) → form_length j ≤ length space
-    → job_written (write_call_of j space) ≡ done_left (Done (form_length j)) (job_form j ++ drop (form_length j) space)
+    → job_written (write_call_of j space) ≡ done_left (Ok (form_length j)) (job_form j ++ drop (form_length j) space)
 passes_written j passed space l = space_written (write_call_of j space) ((none_applies (value_questions j)).1 passed) l

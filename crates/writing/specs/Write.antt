@@ -1,13 +1,11 @@
 -- Document 02, No. 8: the call that writes a job.
-use Rattle.std.specs.Prelude.{ℕ, List, [], ◌∷◌, ◌++◌, length, drop}
+use Rattle.std.specs.Prelude.{ℕ, List, [], ◌∷◌, ◌++◌, length, drop, Ok, Err}
 use Rattle.riscu.specs.Lent.{LentList, LentMut}
 use Rattle.calls.specs.Questions.{Question, ◌otherwise◌, code_fits, intervals_fit, in_order, limit_fits, memory_fits, first_fits, space_fits}
 use Rattle.calls.specs.Call.{box_of}
 use Rattle.calls.specs.Border.{refused_number}
-use Rattle.calls.specs.Done.{DoneLeft, Deed, done_to, refusal_from}
+use Rattle.calls.specs.Done.{Completion, DoneLeft, Deed, done_to, refusal_from}
 use Rattle.calls.specs.declared.Refusal.TheVariants.{Code, Inputs, Order, Limit, Memory, First, Space}
-use Rattle.calls.specs.declared.Completion.{Completion}
-use Rattle.calls.specs.declared.Completion.TheVariants.{Refused, Done}
 use Rattle.jobs.specs.Job.{JobRead}
 use Rattle.writing.specs.Form.{job_form, form_length}
 use Rattle.writing.specs.declared.WriteOutcome.{WriteOutcome}
@@ -51,8 +49,8 @@ job_written c = done_to (write_questions c) (write_deed c)
 -- the answer in numbers at the border: the refusal's or 0, and the bytes written
 
 abbrev pub bytes_written : Completion → ℕ
-bytes_written (Refused r) = 0
-bytes_written (Done n) = n
+bytes_written (Err r) = 0
+bytes_written (Ok n) = n
 
 abbrev pub write_outcome : Completion → WriteOutcome
 write_outcome a = record { refused = refused_number (refusal_from a); bytes = bytes_written a }

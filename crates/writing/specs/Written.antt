@@ -1,16 +1,14 @@
 -- What a call that writes a job promises, and what reader and writer are to each other.
-use Rattle.std.specs.Prelude.{◌≡◌, ◌↔◌, ◌≢◌, true, List, ◌++◌, ℕ, suc, ◌*◌, ◌%◌, ◌^◌, ◌≤◌, ◌<◌, length, take, drop}
+use Rattle.std.specs.Prelude.{◌≡◌, ◌↔◌, ◌≢◌, true, List, ◌++◌, ℕ, suc, ◌*◌, ◌%◌, ◌^◌, ◌≤◌, ◌<◌, length, take, drop, Ok, Err}
 use Rattle.std.proofs.Math.Option.{none, some}
 use Rattle.riscu.specs.Limits.{memory_words}
 use Rattle.blocks.specs.Block.{block_bytes, block, checks_agree}
 use Rattle.calls.specs.Questions.{AllYes}
 use Rattle.calls.specs.Call.{Below}
 use Rattle.calls.specs.Border.{SaysRefusal}
-use Rattle.calls.specs.Done.{DoneLeft, done_left, refusal_from, Completes}
+use Rattle.calls.specs.Done.{Completion, DoneLeft, done_left, refusal_from, Completes}
 use Rattle.calls.specs.declared.Refusal.{Refusal}
 use Rattle.calls.specs.declared.Refusal.TheVariants.{Form, Space}
-use Rattle.calls.specs.declared.Completion.{Completion}
-use Rattle.calls.specs.declared.Completion.TheVariants.{Refused, Done}
 use Rattle.jobs.specs.Job.{JobRead, given_count, memory_at, job_read, most_blocks, whole_blocks, job_refusal_of}
 use Rattle.writing.specs.Form.{header_words, job_form, form_length}
 use Rattle.writing.specs.Write.{WriteCall, write_call_of, value_questions, write_questions, write_deed, job_written, bytes_written}
@@ -21,8 +19,8 @@ pub record WritesJob (c : WriteCall) (l : DoneLeft) : Type 0 where
   -- the first no decides; accepted, it answers the length that was known before; a refusal writes nothing
   pub completes : Completes (write_questions c) (write_deed c) l
   -- accepted, the job stands at the start of the space, and a longer space keeps its rest
-  pub job : (n : ℕ) → l.answer ≡ Done n → take n l.list ≡ job_form c.values
-  pub rest : (n : ℕ) → l.answer ≡ Done n → drop n l.list ≡ drop n c.space
+  pub job : (n : ℕ) → l.answer ≡ Ok n → take n l.list ≡ job_form c.values
+  pub rest : (n : ℕ) → l.answer ≡ Ok n → drop n l.list ≡ drop n c.space
 
 -- the numbers at the border say all of the answer
 pub record WriteInNumbers (o : WriteOutcome) (a : Completion) : Type 0 where
@@ -65,7 +63,7 @@ pub record GivesFew (j : JobRead) : Type 0 where
 abbrev pub Alike : JobRead → List ℕ → Type 0
 Alike j bytes =
     (r : Refusal) → r ≢ Form → r ≢ Space → (space : List ℕ)
-    → (job_refusal_of bytes ≡ some r) ↔ ((job_written (write_call_of j space)).answer ≡ Refused r)
+    → (job_refusal_of bytes ≡ some r) ↔ ((job_written (write_call_of j space)).answer ≡ Err r)
 
 -- Values are refused exactly as the reader would refuse a header with these values: the header alone, and whatever stands behind it, in
 -- whole blocks whose checks agree. A header has whole pairs and says how many of 512 words are given, so the values have these too.
@@ -98,7 +96,7 @@ pub record OneForm (bytes : List ℕ) : Type 0 where
   -- all that the reader accepts can be written, in a space that is long enough
   pub written_as : (space : List ℕ) → form_length (job_read bytes) ≤ length space
       → job_written (write_call_of (job_read bytes) space)
-      ≡ done_left (Done (form_length (job_read bytes))) (job_form (job_read bytes) ++ drop (form_length (job_read bytes)) space)
+      ≡ done_left (Ok (form_length (job_read bytes))) (job_form (job_read bytes) ++ drop (form_length (job_read bytes)) space)
   pub means : SameMeaning (job_form (job_read bytes)) bytes
   pub is_form : WritersForm (job_form (job_read bytes))
   pub only : (other : List ℕ) → SameMeaning other bytes → WritersForm other → other ≡ job_form (job_read bytes)

@@ -6,7 +6,7 @@
 ghost use Rattle.std.specs.Prelude.{◌≡◌};
 ghost use Rattle.writing.specs.Write.{write_outcome};
 
-use calls::{Completion, refusal_number};
+use calls::{Completion, completion_number};
 
 mod value_words;
 pub mod writing;
@@ -20,14 +20,13 @@ pub struct WriteOutcome {
 }
 
 // An answer in numbers.
-pub fn write_outcome(a: Completion) -> WriteOutcome
-    ensures { result ≡ write_outcome a }
-{
-    match a {
-        Completion::Refused(r) => WriteOutcome {
-            refused: refusal_number(r),
-            bytes: 0,
-        },
-        Completion::Done(bytes) => WriteOutcome { refused: 0, bytes },
+impl From<Completion> for WriteOutcome {
+    ghost from_gives = { λ a o. o ≡ write_outcome a };
+
+    fn from(a: Completion) -> WriteOutcome {
+        WriteOutcome {
+            refused: completion_number(a),
+            bytes: a.unwrap_or(0),
+        }
     }
 }

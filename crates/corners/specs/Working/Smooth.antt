@@ -1,5 +1,5 @@
 -- Smooth steps: no choice of the box is stopped (points 2 to 9 of the ending order), and all have one class.
-use Rattle.std.specs.Prelude.{◌≡◌, ◌⊎◌, ℕ, ◌%◌, ◌≤◌}
+use Rattle.std.specs.Prelude.{◌≡◌, ◌⊎◌, ℕ, ◌%◌, ◌≤◌, Some}
 use Rattle.std.proofs.Math.Option.{Option, none, some}
 use Rattle.boxes.specs.Boxes.{Choice, Box, Inside}
 use Rattle.riscu.specs.Machine.{State, reg, offset, fetch}
@@ -7,7 +7,6 @@ use Rattle.riscu.specs.declared.Operation.{Operation}
 use Rattle.riscu.specs.declared.Operation.TheVariants.{Add, Sub, Mul, Divu, Remu, Sltu}
 use Rattle.riscu.specs.declared.Instruction.{Instruction}
 use Rattle.riscu.specs.declared.Instruction.TheVariants.{Lui, Immediate, Register, Ld, Sd, Branch, Jal, Jalr, Ecall}
-use Rattle.riscu.specs.declared.Decoded.TheVariants.{Row}
 use Rattle.listing.specs.Group.{Job, after, sorting_of, operand, class_of}
 use Rattle.listing.specs.Ending.{last_address}
 use Rattle.listing.specs.declared.Operand.{Operand}
@@ -89,7 +88,7 @@ module _ (b : Box) (s : Choice → State) where
 
 -- points 2 to 9 do not apply
 pub record Followed (j : Job) (b : Box) (n : ℕ) (i : Instruction) : Type 0 where
-  pub fetched : (c : Choice) → Inside c b → fetch j.code (after j n c).pc ≡ Row i
+  pub fetched : (c : Choice) → Inside c b → fetch j.code (after j n c).pc ≡ Some i
   pub completes : (c : Choice) → Inside c b → Completes i (after j n c)
   pub settled : Settled b (after j n) i
 

@@ -1,12 +1,10 @@
 -- The tags of a group: the input that each register and each memory word hangs on. They move as the values do.
-use Rattle.std.specs.Prelude.{cond, List, ℕ, zero, suc, ◌/◌, eqb, ltb, length, get_or, set, replicate}
+use Rattle.std.specs.Prelude.{cond, List, ℕ, zero, suc, ◌/◌, eqb, ltb, length, get_or, set, replicate, Option, Some, None}
 use Rattle.boxes.specs.Boxes.{Choice, Box, lows, highs}
 use Rattle.riscu.specs.Limits.{memory_words}
 use Rattle.riscu.specs.Machine.{State, reg, put_in, offset, fetch}
 use Rattle.riscu.specs.declared.Instruction.{Instruction}
 use Rattle.riscu.specs.declared.Instruction.TheVariants.{Lui, Immediate, Register, Ld, Sd, Branch, Jal, Jalr, Ecall}
-use Rattle.riscu.specs.declared.Decoded.{Decoded}
-use Rattle.riscu.specs.declared.Decoded.TheVariants.{Row, NoRow}
 use Rattle.listing.specs.Group.{Job, after, sorting_of, operand}
 use Rattle.listing.specs.declared.Operand.{Operand}
 use Rattle.listing.specs.declared.Operand.TheVariants.{InRegister, Constant}
@@ -54,9 +52,9 @@ tag_by Nothing l h t = 0
 unfoldable pub class_tag : Instruction → State → State → Tags → ℕ
 class_tag i l h t = tag_by (sorting_of i) l.registers h.registers t.registers
 
-unfoldable pub tag_decoded : Choice → Decoded → State → State → Tags → Tags
-tag_decoded c (Row i) l h t = tag_step c i l h t
-tag_decoded c NoRow l h t = t
+unfoldable pub tag_decoded : Choice → Option Instruction → State → State → Tags → Tags
+tag_decoded c (Some i) l h t = tag_step c i l h t
+tag_decoded c None l h t = t
 
 -- the tags after n steps, as a run of the two corners finds them
 unfoldable pub tags_at : Job → Box → ℕ → Tags

@@ -1,9 +1,9 @@
 -- What the code's contracts use beside the definitions: sizes, what a path adds to the counts, and the sums.
-use Rattle.std.specs.Prelude.{ℕ, ◌+◌, ◌*◌, ◌≤◌, ◌<◌, ◌^◌, ◌≡◌, Bool, cond, List, [], ◌∷◌, ◌++◌, map, ltb, eqb, length, take, drop, replicate}
+use Rattle.std.specs.Prelude.{ℕ, ◌+◌, ◌*◌, ◌≤◌, ◌<◌, ◌^◌, ◌≡◌, Bool, cond, List, [], ◌∷◌, ◌++◌, map, ltb, eqb, length, take, drop, replicate, Option, Some, None, Result as Answered, Ok, Err}
 use Rattle.std.proofs.Math.Option.{none}
 use Rattle.boxes.specs.Boxes.{Box, from, size}
 use Rattle.boxes.specs.Working.Cuts.{Proper}
-use Rattle.riscu.specs.Lent.{LentList, LentMut}
+use Rattle.riscu.specs.Lent.{LentList}
 use Rattle.listing.specs.First.{first}
 use Rattle.listing.specs.Group.{Job}
 use Rattle.listing.specs.Listing.{Path}
@@ -14,14 +14,14 @@ use Rattle.calls.specs.Call.{Call, call_of, Below, Typed, refusal_of, job_of}
 use Rattle.jobs.specs.declared.Counts.{Counts}
 use Rattle.serving.specs.Served.{table_words}
 use Rattle.counting.specs.Counting.{Result, result_in, most_paths, kind_places, counts_by}
-use Rattle.counting.specs.Count.{size_questions, counted_by}
+use Rattle.counting.specs.Count.{size_questions, count_refused, counted_by}
 use Rattle.counting.specs.declared.Counted.{Counted}
-use Rattle.counting.specs.declared.sizes.BoxSize.{BoxSize}
-use Rattle.counting.specs.declared.sizes.BoxSize.TheVariants.{Fits, Over}
+use Rattle.calls.specs.declared.Refusal.{Refusal}
+use Rattle.counting.specs.declared.adding.Entry.{Entry}
 
--- a size as the code holds it
-abbrev pub sized : ℕ → BoxSize
-sized n = cond (ltb n (2 ^ 64)) (Fits n) Over
+-- a size, if it is a word
+abbrev pub sized : ℕ → Option ℕ
+sized n = cond (ltb n (2 ^ 64)) (Some n) None
 
 -- a box with a choice, and with fewer than 2^64
 pub record FitsWord (b : Box) : Type 0 where
@@ -68,19 +68,10 @@ pub record Adds (report : List ℕ) (n count total : ℕ) : Type 0 where
   pub sum : sum_all (parts_in n report count) ≡ total
   pub fits : total < 2 ^ 64
 
--- Values with their choices: two lists side by side.
-
-pub record Entry : Type 0 where
-  pub value : ℕ
-  pub count : ℕ
+-- Values with their choices.
 
 abbrev pub entry : ℕ → ℕ → Entry
 entry v n = record { value = v; count = n }
-
-unfoldable pub joined : List ℕ → List ℕ → List Entry
-joined [] cs = []
-joined (v ∷ vs) [] = []
-joined (v ∷ vs) (n ∷ cs) = entry v n ∷ joined vs cs
 
 unfoldable pub sum_of : List Entry → ℕ
 sum_of [] = 0
@@ -97,17 +88,13 @@ carried p (e ∷ es) =
 abbrev pub laid : List Entry → List Entry → List Entry
 laid es old = es ++ drop (length es) old
 
-pub record Room (vs cs : List ℕ) (used : ℕ) (p : Entry) : Type 0 where
-  pub place : used < length vs
-  pub even : length cs ≡ length vs
-  pub fits : p.count + sum_of (take used (joined vs cs)) < 2 ^ 64
+pub record Room (places : List Entry) (used : ℕ) (p : Entry) : Type 0 where
+  pub free : used < length places
+  pub fits : p.count + sum_of (take used places) < 2 ^ 64
 
-pub record AddedTo (vs cs vs' cs' : List ℕ) (used r : ℕ) (p : Entry) : Type 0 where
-  pub lists : joined vs' cs' ≡ laid (carried p (take used (joined vs cs))) (joined vs cs)
-  pub count : r ≡ length (carried p (take used (joined vs cs)))
-
-abbrev pub Added : LentMut → LentMut → ℕ → ℕ → Entry → Type 0
-Added vs cs used r p = AddedTo vs.entry.now cs.entry.now vs.exit.now cs.exit.now used r p
+pub record Added (places : List Entry) (used : ℕ) (p : Entry) (after : List Entry) (r : ℕ) : Type 0 where
+  pub lists : after ≡ laid (carried p (take used places)) places
+  pub count : r ≡ length (carried p (take used places))
 
 -- A job that was read.
 
@@ -134,3 +121,8 @@ job_lent code intervals memory k = started_job code.entry.now intervals.entry.no
 -- questions 15 and 16, and the counts
 abbrev pub counted_job : Job → Counted
 counted_job j = counted_by j (first (size_questions j))
+
+-- an answer as C has it: the counts, or those of a job that is turned away
+abbrev pub in_one : Answered Counted Refusal → Counted
+in_one (Ok c) = c
+in_one (Err r) = count_refused r

@@ -3,11 +3,10 @@ use Rattle.std.specs.Prelude.{◌≡◌, Bool, true, false, List, ℕ, ◌-◌, 
 use Rattle.listing.specs.Group.{Job}
 use Rattle.blocks.specs.Record.{most_inputs, record_bytes, records}
 use Rattle.decide.specs.declared.Limits.{Limits}
-use Rattle.lockstep.specs.Working.LockStep.{Machines}
+use Rattle.lockstep.specs.declared.Machines.{Machines}
 use Rattle.pages.specs.Working.Page.{filled}
 use Rattle.pages.specs.declared.Window.{Window}
-use Rattle.riscu.specs.Lent.{LentMut}
-use Rattle.explorer.specs.Working.Held.{Lists, lists, LentLists, latest, listed, standing, Held, work}
+use Rattle.explorer.specs.Working.Held.{Lists, lists, latest, listed, standing, Held, work}
 use Rattle.explorer.specs.declared.Phase.TheVariants.{AtGroup, Stopped}
 use Rattle.explorer.specs.declared.Standing.{Standing}
 
@@ -39,10 +38,6 @@ pub record Turned (j : Job) (m : Limits) (w : Window) (x : Lists) (lent : List �
   pub less : work j y r < work j x s
   pub paths : s.paths ≤ r.paths
   pub kept : drop (filled m.inputs w r.paths) report ≡ drop (filled m.inputs w r.paths) lent
-
--- the same of lists and a report that are lent
-abbrev pub TurnedLent : Job → Limits → Window → LentLists → LentMut → Standing → Standing → Type 0
-TurnedLent j m w z report s r = Turned j m w z.before report.entry.now s z.after report.exit.now r
 
 -- a turn between two groups leaves the report alone, whatever it holds
 pub record TurnedBetween (j : Job) (m : Limits) (w : Window) (x : Lists) (s : Standing) (y : Lists) (r : Standing) : Type 0 where

@@ -1,6 +1,5 @@
 -- What the explorer's lists and numbers stand for: a state that the engine of `forks` comes to, with both corners' machines.
 use Rattle.std.specs.Prelude.{◌≡◌, ◌⊎◌, ◌≢◌, Bool, true, false, List, ◌∷◌, ℕ, ◌+◌, ◌-◌, ◌*◌, ◌≤◌, ◌<◌, ltb, length, get_or, take}
-use Rattle.std.specs.Borrow.{Bor, MutBor}
 use Rattle.riscu.specs.Machine.{run, start}
 use Rattle.riscu.specs.declared.Instruction.{Instruction}
 use Rattle.listing.specs.Group.{Job, Group, class_of}
@@ -12,8 +11,7 @@ use Rattle.forks.specs.Working.Turn.{Position, running, resting, Reached, Fetche
 use Rattle.calls.specs.Limits.{entry_words}
 use Rattle.forks.specs.Working.Table.{group_in, fork_in, forks_in, HasEntry, OnTop}
 use Rattle.boxes.specs.Working.Cuts.{box_in}
-use Rattle.riscu.specs.Lent.{LentList, LentMut, lent}
-use Rattle.lockstep.specs.Working.LockStep.{Pair, Machines, machines, both, lent_machines, advanced, pair, AtCorners}
+use Rattle.lockstep.specs.Working.LockStep.{Pair, both, advanced, pair, AtCorners}
 use Rattle.cuts.specs.Working.Cutting.{probed, Starts}
 use Rattle.cuts.specs.Working.Forking.{Parted}
 use Rattle.decide.specs.Working.Corner.{machine, decision}
@@ -22,9 +20,11 @@ use Rattle.decide.specs.declared.Decision.TheVariants.{Forks}
 use Rattle.decide.specs.declared.Limits.{Limits}
 use Rattle.decide.specs.declared.Used.{Used}
 use Rattle.lockstep.specs.declared.Corners.{Corners}
+use Rattle.lockstep.specs.declared.Machines.{Machines}
 use Rattle.explorer.specs.declared.Phase.{Phase}
 use Rattle.explorer.specs.declared.Phase.TheVariants.{AtGroup, Between, Stopped}
 use Rattle.explorer.specs.declared.Standing.{Standing}
+use Rattle.explorer.specs.declared.Task.{Task}
 use Rattle.corners.specs.Working.Good.{Sound, weight}
 
 -- the box's lows and highs, the trace table, and the machines at the corners with the tags
@@ -37,33 +37,12 @@ pub record Lists : Type 0 where
 abbrev pub lists : List ℕ → List ℕ → List ℕ → Machines → Lists
 lists ls hs t m = record { lows = ls; highs = hs; table = t; machines = m }
 
--- the lists that are lent, as a `requires` names them; and as an `ensures` does, at the call and at the return
-
-abbrev pub lists_at : MutBor (List ℕ) → MutBor (List ℕ) → MutBor (List ℕ) → MutBor (List ℕ) → MutBor (List ℕ) → MutBor (List ℕ)
-    → MutBor (List ℕ) → MutBor (List ℕ) → MutBor (List ℕ) → Lists
-lists_at ls hs t l c h o r w = lists ls.now hs.now t.now (machines l.now c.now h.now o.now r.now w.now)
-
-pub record LentLists : Type 0 where
-  pub before : Lists
-  pub after : Lists
-
-abbrev pub lent_lists : LentMut → LentMut → LentMut → LentMut → LentMut → LentMut → LentMut → LentMut → LentMut → LentLists
-lent_lists ls hs t l c h o r w =
-    let m = lent_machines l c h o r w in
-    record {
-      before = lists ls.entry.now hs.entry.now t.entry.now m.before;
-      after = lists ls.exit.now hs.exit.now t.exit.now m.after;
-    }
-
--- the job that is explored; and the same of the code, memory and intervals that are lent
+-- the job that is explored; and the same of a task
 abbrev pub job_in : List ℕ → List ℕ → List ℕ → Limits → Job
 job_in code memory intervals m = record { code = code; memory = memory; limit = m.steps; box = box_of intervals; entries = m.entries }
 
-abbrev pub job_at : Bor (List ℕ) → Bor (List ℕ) → Bor (List ℕ) → Limits → Job
-job_at code memory intervals m = job_in code.now memory.now intervals.now m
-
-abbrev pub job_lent : LentList → LentList → LentList → Limits → Job
-job_lent code memory intervals m = job_in (lent code) (lent memory) (lent intervals) m
+abbrev pub job_of : Task → Job
+job_of t = job_in t.code.now t.memory.now t.intervals.now t.limits
 
 abbrev pub group_of : Lists → Standing → Group
 group_of x s = group_in x.lows x.highs s.steps s.used

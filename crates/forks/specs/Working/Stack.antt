@@ -1,11 +1,9 @@
 -- The explorer's state as the plain listing sees it: the current group, and a stack of forks, the latest first.
-use Rattle.std.specs.Prelude.{ℕ, ◌+◌, ◌≤◌, ◌<◌, ◌≡◌, Bool, true, false, cond, List, [], ◌∷◌, ◌++◌, map, ltb, length}
+use Rattle.std.specs.Prelude.{ℕ, ◌+◌, ◌≤◌, ◌<◌, ◌≡◌, Bool, true, false, cond, List, [], ◌∷◌, ◌++◌, map, ltb, length, Option, Some, None}
 use Rattle.boxes.specs.Boxes.{Box, ◌⋯◌, at, lows, highs}
 use Rattle.boxes.specs.Working.Cuts.{cut, OneInput}
 use Rattle.riscu.specs.Machine.{fetch}
 use Rattle.riscu.specs.declared.Instruction.{Instruction}
-use Rattle.riscu.specs.declared.Decoded.{Decoded}
-use Rattle.riscu.specs.declared.Decoded.TheVariants.{Row, NoRow}
 use Rattle.listing.specs.Group.{Job, Group, view_of, after, class_of}
 use Rattle.listing.specs.Ending.{writes}
 use Rattle.listing.specs.Listing.{Path, progress, later, moves}
@@ -63,9 +61,9 @@ abbrev pub written : Job → Group → Instruction → ℕ
 written j g i = writes (ltb (low_state j g).reads (length g.box)) i
 
 -- the groups that take the place of what is left of a fork; the fork's entry counts even where one piece is left
-unfoldable pub rest_by : Job → Group → Decoded → List Group
-rest_by j g NoRow = []
-rest_by j g (Row i) = map (later g (written j g i + 1)) ((view_of j g).pieces_of i)
+unfoldable pub rest_by : Job → Group → Option Instruction → List Group
+rest_by j g None = []
+rest_by j g (Some i) = map (later g (written j g i + 1)) ((view_of j g).pieces_of i)
 
 abbrev pub rest_of : Job → Group → List Group
 rest_of j g = rest_by j g (fetch j.code (low_state j g).pc)

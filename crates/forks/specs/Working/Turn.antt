@@ -1,13 +1,12 @@
 -- The explorer's steps, by the corners, and where a group forks along an input that its class hangs on: a group that goes on straight, one
 -- that forks, one that ends; and between two groups a fork
 -- with nothing left that goes, a rest taken up whole, and the first part of a rest.
-use Rattle.std.specs.Prelude.{◌≡◌, true, false, List, [], ◌∷◌, ◌++◌, ◌≢◌, ℕ, suc, ◌+◌, ◌<◌, length, set}
+use Rattle.std.specs.Prelude.{◌≡◌, true, false, List, [], ◌∷◌, ◌++◌, ◌≢◌, ℕ, suc, ◌+◌, ◌<◌, length, set, Some}
 use Rattle.std.proofs.Math.Option.{none, some}
 use Rattle.boxes.specs.Boxes.{Choice, Box, at, lows, highs}
 use Rattle.boxes.specs.Working.Cuts.{OneInput, below, Edge}
 use Rattle.riscu.specs.Machine.{fetch}
 use Rattle.riscu.specs.declared.Instruction.{Instruction}
-use Rattle.riscu.specs.declared.Decoded.TheVariants.{Row}
 use Rattle.listing.specs.Group.{Job, Group, after, class_of}
 use Rattle.listing.specs.Ending.{end_by}
 use Rattle.listing.specs.Listing.{Path, Progress, progress, later, path_of, whole}
@@ -27,7 +26,7 @@ class_at j n i c = class_of i (after j n c)
 
 -- the instruction at a group's low corner, and a class that is the same at both corners
 abbrev pub Fetches : Job → Group → Instruction → Type 0
-Fetches j g i = fetch j.code (low_state j g).pc ≡ Row i
+Fetches j g i = fetch j.code (low_state j g).pc ≡ Some i
 
 abbrev pub OneClass : Job → Group → Instruction → Type 0
 OneClass j g i = class_of i (low_state j g) ≡ class_of i (high_state j g)

@@ -1,5 +1,5 @@
 -- What the code's contracts use beside the definitions: what the reader leaves.
-use Rattle.std.specs.Prelude.{ℕ, ◌≤◌, ◌%◌, ◌≡◌, List, ◌++◌, length, drop}
+use Rattle.std.specs.Prelude.{ℕ, ◌≤◌, ◌%◌, ◌≡◌, List, ◌++◌, length, drop, Result, Ok, Err}
 use Rattle.std.proofs.Math.Option.{Option, none, some}
 use Rattle.riscu.specs.Limits.{code_words, memory_words}
 use Rattle.blocks.specs.Block.{block_bytes}
@@ -8,8 +8,6 @@ use Rattle.calls.specs.declared.Refusal.{Refusal}
 use Rattle.riscu.specs.Lent.{LentList, LentMut}
 use Rattle.jobs.specs.Job.{code_count, input_count, step_limit, first_path, given_count, JobRead, job_read, job_refusal_of}
 use Rattle.jobs.specs.declared.Counts.{Counts}
-use Rattle.jobs.specs.declared.JobAnswer.{JobAnswer}
-use Rattle.jobs.specs.declared.JobAnswer.TheVariants.{Refused, Read}
 
 -- whole blocks: every word is there or 0
 abbrev pub Whole : List ℕ → Type 0
@@ -30,7 +28,11 @@ counts_in bytes =
 abbrev pub over : List ℕ → List ℕ → List ℕ
 over new old = new ++ drop (length new) old
 
--- what the reader answers and leaves: a refusal changes nothing
+-- what the reader answers: the numbers of the job, or the refusal
+abbrev pub JobAnswer : Type 0
+JobAnswer = Result Counts Refusal
+
+-- its answer, and what it leaves: a refusal changes nothing
 pub record JobLeft : Type 0 where
   pub answer : JobAnswer
   pub code : List ℕ
@@ -42,10 +44,10 @@ job_left answer code intervals memory =
     record { answer = answer; code = code; intervals = intervals; memory = memory }
 
 unfoldable pub read_by : List ℕ → List ℕ → List ℕ → List ℕ → Option Refusal → JobLeft
-read_by bytes code intervals memory (some r) = job_left (Refused r) code intervals memory
+read_by bytes code intervals memory (some r) = job_left (Err r) code intervals memory
 read_by bytes code intervals memory none =
     let j : JobRead = job_read bytes in
-    job_left (Read (counts_in bytes)) (over j.code code) (over j.intervals intervals) j.memory
+    job_left (Ok (counts_in bytes)) (over j.code code) (over j.intervals intervals) j.memory
 
 unfoldable pub read_to : List ℕ → List ℕ → List ℕ → List ℕ → JobLeft
 read_to bytes code intervals memory = read_by bytes code intervals memory (job_refusal_of bytes)

@@ -1,16 +1,14 @@
 -- The machines at the two corners of a box, and the tags, run in lock step.
-use Rattle.std.specs.Prelude.{◌≡◌, cond, List, ℕ, zero, suc, eqb, get_or, replicate}
+use Rattle.std.specs.Prelude.{◌≡◌, List, ℕ, zero, suc, replicate, Option, Some, None}
 use Rattle.boxes.specs.Boxes.{Choice, Box, lows, highs}
-use Rattle.riscu.specs.Lent.{LentMut}
 use Rattle.riscu.specs.Limits.{memory_words}
 use Rattle.riscu.specs.Machine.{State, start, fetch, step}
 use Rattle.riscu.specs.Working.Parts.{state}
 use Rattle.riscu.specs.declared.At.{At}
 use Rattle.riscu.specs.declared.Instruction.{Instruction}
-use Rattle.riscu.specs.declared.Decoded.{Decoded}
-use Rattle.riscu.specs.declared.Decoded.TheVariants.{Row, NoRow}
 use Rattle.listing.specs.Group.{Job, after}
 use Rattle.lockstep.specs.declared.Corners.{Corners}
+use Rattle.lockstep.specs.declared.Machines.{Machines}
 use Rattle.corners.specs.Working.Tags.{Tags, tag_step, class_tag}
 use Rattle.corners.specs.Working.Uniform.{Uniform}
 
@@ -18,13 +16,17 @@ use Rattle.corners.specs.Working.Uniform.{Uniform}
 abbrev pub tagged : List ℕ → List ℕ → Tags
 tagged r m = record { registers = r; memory = m }
 
--- the tag of the open one of registers a and b, which are l and h at the corners
-abbrev pub open_tag : ℕ → ℕ → List ℕ → List ℕ → List ℕ → ℕ
-open_tag a b l h t = cond (eqb (get_or l a 0) (get_or h a 0)) (get_or t b 0) (get_or t a 0)
+-- the tags of the machines, and the machines with other tags
+abbrev pub tags_of : Machines → Tags
+tags_of m = tagged m.tags m.tagmem
 
--- the tags t become u by an instruction: it asks the registers l and h at the corners, and the inputs that the low machine has read
-abbrev pub Marks : Choice → Instruction → At → List ℕ → List ℕ → Tags → Tags → Type 0
-Marks c i a l h t u = (b : At) (m n : List ℕ) → u ≡ tag_step c i (state a l m) (state b h n) t
+abbrev pub with_tags : Machines → Tags → Machines
+with_tags m t = record m { tags = t.registers; tagmem = t.memory }
+
+-- the tags of the machines m are moved by an instruction, which gives n: it asks the registers at the corners, and the inputs that
+-- the low machine, which is at a, has read
+abbrev pub Marks : Choice → Instruction → At → Machines → Machines → Type 0
+Marks c i a m n = (b : At) → n ≡ with_tags m (tag_step c i (state a m.low m.lowmem) (state b m.high m.highmem) (tags_of m))
 
 -- the class at an instruction hangs on input x: this asks the registers alone
 abbrev pub Hangs : Instruction → List ℕ → List ℕ → List ℕ → ℕ → Type 0
@@ -38,41 +40,18 @@ pub record Pair : Type 0 where
 abbrev pub pair : State → State → Tags → Pair
 pair l h t = record { low = l; high = h; tags = t }
 
--- the lists that the code holds it in: the registers and the memory of each machine, the tags
-pub record Machines : Type 0 where
-  pub low : List ℕ
-  pub lowmem : List ℕ
-  pub high : List ℕ
-  pub highmem : List ℕ
-  pub tags : List ℕ
-  pub tagmem : List ℕ
-
-abbrev pub machines : List ℕ → List ℕ → List ℕ → List ℕ → List ℕ → List ℕ → Machines
-machines l c h o t v = record { low = l; lowmem = c; high = h; highmem = o; tags = t; tagmem = v }
-
 -- with where the machines are
 abbrev pub both : Corners → Machines → Pair
-both c m = pair (state c.low m.low m.lowmem) (state c.high m.high m.highmem) (tagged m.tags m.tagmem)
-
--- the same of lists that are lent: at the call, and at the return
-pub record LentMachines : Type 0 where
-  pub before : Machines
-  pub after : Machines
-
-abbrev pub lent_machines : LentMut → LentMut → LentMut → LentMut → LentMut → LentMut → LentMachines
-lent_machines l c h o t v = record {
-  before = machines l.entry.now c.entry.now h.entry.now o.entry.now t.entry.now v.entry.now;
-  after = machines l.exit.now c.exit.now h.exit.now o.exit.now t.exit.now v.exit.now;
-}
+both c m = pair (state c.low m.low m.lowmem) (state c.high m.high m.highmem) (tags_of m)
 
 module _ (lows highs : Choice) where
   -- both take the instruction
   abbrev pub advanced : Instruction → Pair → Pair
   advanced i p = pair (step lows i p.low) (step highs i p.high) (tag_step lows i p.low p.high p.tags)
 
-  unfoldable pub advanced_by : Decoded → Pair → Pair
-  advanced_by (Row i) p = advanced i p
-  advanced_by NoRow p = p
+  unfoldable pub advanced_by : Option Instruction → Pair → Pair
+  advanced_by (Some i) p = advanced i p
+  advanced_by None p = p
 
   -- n steps, each with the low machine's instruction
   unfoldable pub lock_steps : List ℕ → ℕ → Pair → Pair
@@ -80,6 +59,17 @@ module _ (lows highs : Choice) where
   lock_steps code (suc n) p =
       let q = lock_steps code n p in
       advanced_by (fetch code q.low.pc) q
+
+-- all 0
+abbrev pub zeroed : Machines
+zeroed = record {
+  low = replicate 32 0;
+  lowmem = replicate memory_words 0;
+  high = replicate 32 0;
+  highmem = replicate memory_words 0;
+  tags = replicate 32 0;
+  tagmem = replicate memory_words 0;
+}
 
 -- both corners of the starting machine, nothing read
 unfoldable pub starting : List ℕ → Pair

@@ -1,9 +1,10 @@
-use Prim.Native.Nat.{◌-◌, ◌≤◌}
-use lib.ListN.{length}
+-- Each line that was counted took a byte of the text.
+use Rattle.std.proofs.Common.{◌+◌, ◌≤◌, length}
 use Rattle.machine_tests.proofs.run_all.Given as goal
 
-abbrev pub invariant-loop-at : goal.invariant-loop-at
-invariant-loop-at g l = (l.at ≤ length l.text) × (l.cases ≤ l.at) × (l.differ ≤ l.cases) × (l.before ≤ l.cases)
-
-abbrev pub decreases-loop-at : goal.decreases-loop-at
-decreases-loop-at g l = length l.text - l.at
+abbrev pub invariant-loop-line : goal.invariant-loop-line
+invariant-loop-line g l =
+    (goal.iterator-loop-line g).can_next l.line-iterator
+    × (goal.iterator-loop-line g).is_finite l.line-iterator
+    × (l.tally.lines + length l.line-iterator.rest.now ≤ length l.text)
+    × (l.before ≤ l.tally.lines)

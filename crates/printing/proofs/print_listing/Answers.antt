@@ -1,6 +1,7 @@
 -- `printing::print_listing` meets its contract: the first line, and then the records' lines.
 -- Assumes nothing.
 use mathlib.Core.Path.{ap, ◌∙◌}
+use Rattle.calls.proofs.Numbers.{yes_from}
 use Rattle.printing.specs.Printed.{listing_text}
 use Rattle.printing.specs.Working.Writing.{output, write}
 use Rattle.printing.proofs.Outputs.{then, write_all}
@@ -15,4 +16,4 @@ returns c =
     (then _ _ _ c.put_field-p.ensures
     (then _ _ _ c.put_field-p-2.ensures c.put_text-p.ensures))
     c.put_lines.ensures
-    ∙ ap (write _) (listing_is a.inputs a.count a.more a.report.now c.yes_number.ensures))
+    ∙ ap (write _) (listing_is a.inputs a.count a.more a.report.now (yes_from a.more c.from.ensures)))

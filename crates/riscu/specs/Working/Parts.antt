@@ -22,4 +22,4 @@ Takes i r a r' a' = (m : List ℕ) → Leads i (state a r m) (state a' r' m)
 
 -- a machine that starts, with memory as lent
 abbrev pub Starts : Machine → Type 0
-Starts s = (m : List ℕ) → record { pc = s.pc; registers = s.registers; memory = m; reads = s.reads } ≡ start m
+Starts s = (m : List ℕ) → state s.at s.registers m ≡ start m

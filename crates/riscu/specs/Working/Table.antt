@@ -1,49 +1,43 @@
--- The instruction table as the code holds it: a constant array of fields, and what a word is as a word of each row.
-use Rattle.std.specs.Prelude.{ℕ, suc, ◌%◌, Bool, cond, ◌&&◌, ◌||◌, List, [], ◌∷◌, ◌++◌, map, eqb, get_or}
-use Rattle.riscu.specs.Decode.{bits, rd_of, rs1_of, rs2_of, Field, any, is, Format, rows, ecall_word}
+-- The rows of the instruction table by the code's names, and what a word is as a word of each.
+use Rattle.std.specs.Prelude.{ℕ, ◌%◌, Bool, ◌&&◌, eqb, Option, Some, None}
+use Rattle.std.specs.Option.{option_map}
+use Rattle.riscu.specs.Decode.{bits, Field, any, is, fits, rd_of, rs1_of, rs2_of, imm_i, imm_s, imm_b, imm_u, imm_j}
 use Rattle.riscu.specs.declared.Operation.{Operation}
-use Rattle.riscu.specs.declared.Instruction.TheVariants.{Register, Ecall}
-use Rattle.riscu.specs.declared.Decoded.{Decoded}
-use Rattle.riscu.specs.declared.Decoded.TheVariants.{Row, NoRow}
+use Rattle.riscu.specs.declared.Operation.TheVariants.{Add, Sub, Mul, Divu, Remu, Sltu}
+use Rattle.riscu.specs.declared.Condition.TheVariants.{Equal}
+use Rattle.riscu.specs.declared.Instruction.{Instruction}
+use Rattle.riscu.specs.declared.Instruction.TheVariants.{Lui, Immediate, Register, Ld, Sd, Branch, Jal, Jalr, Ecall}
+use Rattle.riscu.specs.declared.decoder.Row.{Row}
 use Rattle.riscu.specs.declared.decoder.Fields.{Fields}
+use Rattle.riscu.specs.declared.decoder.Row.TheVariants.{Lui as LUI, Addi as ADDI, Add as ADD, Sub as SUB, Mul as MUL, Divu as DIVU, Remu as REMU, Sltu as SLTU, Ld as LD, Sd as SD, Beq as BEQ, Jal as JAL, Jalr as JALR, Ecall as ECALL}
 
--- 8 is any funct3, 128 any funct7
+abbrev pub register_of : Operation → ℕ → Instruction
+register_of op w = Register op (rd_of w) (rs1_of w) (rs2_of w)
+
+unfoldable pub instruction_of : Row → ℕ → Instruction
+instruction_of LUI w = Lui (rd_of w) (imm_u w)
+instruction_of ADDI w = Immediate Add (rd_of w) (rs1_of w) (imm_i w)
+instruction_of ADD w = register_of Add w
+instruction_of SUB w = register_of Sub w
+instruction_of MUL w = register_of Mul w
+instruction_of DIVU w = register_of Divu w
+instruction_of REMU w = register_of Remu w
+instruction_of SLTU w = register_of Sltu w
+instruction_of LD w = Ld (rd_of w) (rs1_of w) (imm_i w)
+instruction_of SD w = Sd (rs1_of w) (rs2_of w) (imm_s w)
+instruction_of BEQ w = Branch Equal (rs1_of w) (rs2_of w) (imm_b w)
+instruction_of JAL w = Jal (rd_of w) (imm_j w)
+instruction_of JALR w = Jalr (rd_of w) (rs1_of w) (imm_i w)
+instruction_of ECALL w = Ecall
+
+-- what a word is as a word of a row, or as one of none
+abbrev pub form_of : Option Row → ℕ → Option Instruction
+form_of row w = option_map (λ r. instruction_of r w) row
+
+-- a field as the code holds it: none is any
+abbrev pub field_of : Option ℕ → Field
+field_of None = any
+field_of (Some n) = is n
+
 abbrev pub agrees : Fields → ℕ → Bool
-agrees f w =
-    eqb (w % 128) f.opcode
-    && (eqb f.funct3 8 || eqb (bits 12 3 w) f.funct3)
-    && (eqb f.funct7 128 || eqb (bits 25 7 w) f.funct7)
-
--- a field as the code holds it, where n stands for any
-abbrev field_or : ℕ → Field → ℕ
-field_or n any = n
-field_or n (is m) = m
-
-abbrev fields : Format → Fields
-fields r = record { opcode = r.opcode; funct3 = field_or 8 r.funct3; funct7 = field_or 128 r.funct7 }
-
-abbrev fields_of : ℕ → Fields
-fields_of w = record { opcode = bits 0 7 w; funct3 = bits 12 3 w; funct7 = bits 25 7 w }
-
--- the rows, and the last one's word
-unfoldable pub table : List Fields
-table = map fields rows ++ (fields_of ecall_word ∷ [])
-
--- the number of the first of the rows that w matches, or how many rows there are
-unfoldable pub first_of : List Fields → ℕ → ℕ
-first_of [] w = 0
-first_of (f ∷ fs) w = cond (agrees f w) 0 (suc (first_of fs w))
-
-abbrev pub row_of : ℕ → ℕ
-row_of w = first_of table w
-
--- what a word is as a word of each row; the last is one whole word
-unfoldable pub forms : List Format → ℕ → List Decoded
-forms [] w = cond (eqb w ecall_word) (Row Ecall) NoRow ∷ []
-forms (r ∷ rs) w = Row (r.read w) ∷ forms rs w
-
-unfoldable pub form_of : ℕ → ℕ → Decoded
-form_of row w = get_or (forms rows w) row NoRow
-
-abbrev pub register_of : Operation → ℕ → Decoded
-register_of op w = Row (Register op (rd_of w) (rs1_of w) (rs2_of w))
+agrees f w = eqb (w % 128) f.opcode && fits (field_of f.funct3) (bits 12 3 w) && fits (field_of f.funct7) (bits 25 7 w)

@@ -11,21 +11,19 @@ use Rattle.serving.proofs.respond.Goals as goal
 pub input_count-inputs-requires : goal.input_count-inputs-requires
 unfolding is_page
 input_count-inputs-requires c =
-    let e = rw c.in-Page.is at c.serve-a.ensures in
-    (yes_sized _ (listed_passes _ _ (ap (λ (y : Reply). is_page y.answer) (sym e)))).whole
+    (yes_sized _ (listed_passes _ _ (ap (λ (y : Reply). is_page y.answer) (sym c.in-Ok.ensures)))).whole
 
 pub print_listing-requires : goal.print_listing-requires
 unfolding is_page
 print_listing-requires c =
-    let call = c.serve-a in
-    let e = rw c.in-Page.is at call.ensures in
+    let e = c.in-Ok.ensures in
     let few = (yes_sized _ (listed_passes _ _ (ap (λ (y : Reply). is_page y.answer) (sym e)))).inputs in
-    (omega (arith, listed_fits _ _ _ e, call.auto.report), rw c.input_count-inputs.ensures few)
+    (omega (arith, listed_fits _ _ _ e, c.serve.auto.report), rw c.input_count-inputs.ensures few)
 
-pub returns-in-Refused : goal.returns-in-Refused
+pub returns-in-Err : goal.returns-in-Err
 unfolding response_by
-returns-in-Refused c = rw (← c.serve-a.ensures, c.in-Refused.is, ← c.refusal_number.ensures) (let e = c.print_refusal.ensures in record { text = e.0; size = e.1; bytes = refl })
+returns-in-Err c = rw (← c.in-Err.ensures, ← c.from.ensures) (let e = c.print_refusal.ensures in record { text = e.0; size = e.1; bytes = refl })
 
-pub returns-in-Page : goal.returns-in-Page
+pub returns-in-Ok : goal.returns-in-Ok
 unfolding response_by
-returns-in-Page c = rw (← c.serve-a.ensures, c.in-Page.is, ← c.input_count-inputs.ensures) (let e = c.print_listing.ensures in record { text = e.0; size = e.1; bytes = refl })
+returns-in-Ok c = rw (← c.in-Ok.ensures, ← c.input_count-inputs.ensures) (let e = c.print_listing.ensures in record { text = e.0; size = e.1; bytes = refl })

@@ -1,6 +1,10 @@
 -- Text in bytes: hex digits, and the number and the line that start at a place.
-use Rattle.std.specs.Prelude.{ℕ, suc, ◌+◌, ◌-◌, ◌*◌, ◌%◌, ◌^◌, ◌≤◌, ◌≡◌, cond, List, [], ◌∷◌, ltb, eqb, length, drop}
-use Rattle.vectors.specs.declared.Number.{Number}
+use Rattle.std.specs.Prelude.{ℕ, suc, ◌+◌, ◌-◌, ◌*◌, ◌%◌, ◌^◌, ◌≤◌, ◌≡◌, cond, List, [], ◌∷◌, ltb, eqb, length, take, drop}
+
+-- a number, and the place after the byte that ends it
+pub record Number : Type 0 where
+  pub value : ℕ
+  pub next : ℕ
 
 -- 0 to 9 and a to f; every other byte is 16
 unfoldable pub digit_of : ℕ → ℕ
@@ -22,3 +26,9 @@ pub record Ends (s : List ℕ) (i r : ℕ) : Type 0 where
   pub is : r ≡ line_from (drop i s) i
   pub after : i ≤ r
   pub within : i ≤ length s → r ≤ length s
+
+-- line is the first line of s, and rest is what stands behind it and its line feed
+pub record IsFirstLine (s line rest : List ℕ) : Type 0 where
+  pub ends : Ends s 0 (length line)
+  pub is : line ≡ take (length line) s
+  pub behind : rest ≡ drop (suc (length line)) s

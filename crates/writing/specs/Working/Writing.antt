@@ -8,7 +8,12 @@ use Rattle.blocks.specs.Record.{most_inputs}
 use Rattle.calls.specs.declared.Refusal.{Refusal}
 use Rattle.jobs.specs.Job.{JobRead, blocks_needed}
 use Rattle.writing.specs.Form.{given_of}
-use Rattle.writing.specs.Write.{value_questions}
+use Rattle.writing.specs.Write.{value_questions, values_of}
+use Rattle.writing.specs.declared.value_words.Values.{Values}
+
+-- the values in the slices of the code's own struct
+abbrev pub values_in : Values → JobRead
+values_in v = values_of v.code.now v.memory.now v.intervals.now v.limit v.first
 
 -- the first no of the questions on the values
 abbrev pub values_refusal : JobRead → Option Refusal

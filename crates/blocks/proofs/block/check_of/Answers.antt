@@ -1,6 +1,6 @@
 -- `blocks::block::check_of` meets its contract: the check of the words that are left, from s on, is the whole check.
 -- Assumes nothing.
-use Rattle.std.proofs.Common.{ℕ, ◌+◌, ◌%◌, ◌^◌, drop, ap, ◌∙◌, arith}
+use Rattle.std.proofs.Common.{drop, ◌∙◌, arith}
 use Rattle.blocks.specs.Block.{word_at}
 use Rattle.blocks.proofs.Bytes.{word_from}
 use Rattle.blocks.proofs.Written.{check_read, check_all}
@@ -10,12 +10,11 @@ pub loop-k-preserved : goal.loop-k-preserved
 loop-k-preserved c =
     let l = c.loop-k in
     let a = c.args in
-    let e = c.wrapping_add_u64-s.ensures.value ∙ ap (λ (x : ℕ). (x + c.word_at.result) % 2 ^ 64) c.turned.ensures in
     let w = c.word_at.ensures ∙ word_from a.bytes.now a.at l.k in
-    (omega arith, rw (e, w) (check_read (word_at (drop a.at a.bytes.now)) l.s l.k (omega arith) ∙ l.invariant.1))
+    rw (c.turned.ensures, w) (check_read (word_at (drop a.at a.bytes.now)) l.s l.k (omega arith) ∙ l.invariant)
 
 pub returns : goal.returns
 returns c =
     let l = c.loop-k in
     let a = c.args in
-    check_all (word_at (drop a.at a.bytes.now)) l.s l.k c.loop-k-test.false l.invariant.1
+    check_all (word_at (drop a.at a.bytes.now)) l.s l.k (omega arith) l.invariant

@@ -8,13 +8,10 @@ pub returns : goal.returns
 returns c =
     let a = c.args in
     let pre = c.requires in
-    let low = c.whole-l in
-    let high = c.whole-h in
-    rw (← low.ensures, ← high.ensures)
-    (first_made a.p a.lows.now a.highs.now low.result high.result pre.0 pre.1 (search rules)
+    first_made a.p a.lows.now a.highs.now a.register_lows.now a.register_highs.now pre.0 pre.1 (search rules)
     c.kind_number.ensures
     c.exit_word.ensures
     c.exit_word-2.ensures
     c.reason_word.ensures
-    c.with_words.ensures
-    c.with_words-2.ensures)
+    c.copy_from_slice.ensures.after
+    c.copy_from_slice-2.ensures.after

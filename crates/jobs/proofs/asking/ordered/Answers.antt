@@ -11,8 +11,8 @@ use Rattle.jobs.proofs.asking.ordered.Goals as goal
 
 pub returns : goal.returns
 returns c =
-    let bytes = c.args.bytes.now in
+    let bytes = c.args.blocks.bytes.now in
     let count = ap (λ (n : ℕ). 2 * n) c.input_count-n.ensures in
     c.in_order.ensures
     ∙ ap (λ (v : List ℕ). in_order (box_of v))
-    (rw c.intervals_in-words.ensures (over_taken (intervals_in bytes) _ (intervals_length bytes ∙ sym count)))
+    (rw c.intervals_in.ensures (over_taken (intervals_in bytes) _ (intervals_length bytes ∙ sym count)))

@@ -1,19 +1,15 @@
-use Rattle.blocks.proofs.Each.{each_end, each_stop, each_go}
+use mathlib.Core.Path.{refl, ◌∙◌}
+use Prim.Native.Nat.{◌-◌}
+use borrow.Author.Tests.{tests}
+use Rattle.std.proofs.Common.{rules}
+use Rattle.std.proofs.lemmas.Iterator.{YieldsList-from_range}
+use Rattle.std.proofs.lemmas.Iterator.Search.{all_from_yields_List}
 use Rattle.jobs.specs.Job.{zero_half, zero_halves}
-use borrow.Author.Tests.{eq-eqb, ne_eqb}
-use native.Mathlib.Omega.{arith}
-use mathlib.Core.Path.{refl, sym, ◌∙◌}
+use Rattle.jobs.proofs.Zeros.{each_range}
 use Rattle.jobs.proofs.asking.zero_halves.Goals as goal
 
-pub loop-k-init : goal.loop-k-init
-unfolding zero_halves
-loop-k-init c = (omega arith, refl)
-
-pub returns-then-code_word-ne0 : goal.returns-then-code_word-ne0
-returns-then-code_word-ne0 c = sym (c.loop-k.invariant.1 ∙ each_stop (zero_half c.args.bytes.now) c.loop-k.k c.args.e (omega arith) (rw (sym c.code_word.ensures) (ne_eqb _ _ c.if-code_word-ne0.true)))
-
-pub loop-k-preserved : goal.loop-k-preserved
-loop-k-preserved c = (omega arith, c.loop-k.invariant.1 ∙ each_go (zero_half c.args.bytes.now) c.loop-k.k c.args.e (omega arith) (eq-eqb _ _ (sym c.code_word.ensures ∙ c.if-code_word-ne0.false)))
-
 pub returns : goal.returns
-returns c = sym (c.loop-k.invariant.1 ∙ each_end (zero_half c.args.bytes.now) c.loop-k.k c.args.e (omega arith))
+unfolding zero_halves
+returns c =
+    all_from_yields_List (zero_half c.args.blocks.bytes.now) _ _ _ c.all.ensures.ran (YieldsList-from_range c.args.j c.args.e (c.args.e - c.args.j) refl refl) (λ x b q k. search (rules, tests))
+    ∙ each_range _ _ _

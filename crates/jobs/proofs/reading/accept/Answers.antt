@@ -5,19 +5,14 @@ use Rattle.jobs.specs.Working.Reading.{read_by, read_to}
 use Rattle.jobs.specs.Job.{job_read}
 use Rattle.jobs.proofs.reading.accept.Goals as goal
 
-pub code_in-requires : goal.code_in-requires
-code_in-requires c = yes_sized c.args.bytes.now c.requires
+pub invariant_of-blocks : goal.invariant_of-blocks
+invariant_of-blocks c = record { whole = (yes_sized c.args.bytes.now c.requires).whole }
+
+pub invariant_of-job : goal.invariant_of-job
+invariant_of-job c = record { sized = yes_sized c.args.bytes.now c.requires }
 
 pub intervals_in-requires : goal.intervals_in-requires
-intervals_in-requires c =
-    let s = yes_sized c.args.bytes.now c.requires in
-    (s.whole, s.inputs)
-
-pub memory_in-requires : goal.memory_in-requires
-memory_in-requires c = yes_sized c.args.bytes.now c.requires
-
-pub counts-requires : goal.counts-requires
-counts-requires c = yes_sized c.args.bytes.now c.requires
+intervals_in-requires c = (yes_sized c.args.bytes.now c.requires).inputs
 
 pub returns : goal.returns
 unfolding read_to read_by job_read

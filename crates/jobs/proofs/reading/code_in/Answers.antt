@@ -13,4 +13,4 @@ pub returns : goal.returns
 unfolding code_in
 returns c =
     copy_done 0 _ _ _ _ _ _ _ c.loop-k.invariant (omega arith)
-    ∙ copied_over (code_at c.args.bytes.now) _ _ (omega arith)
+    ∙ copied_over (code_at _) _ _ (omega arith)

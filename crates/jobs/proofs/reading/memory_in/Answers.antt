@@ -9,7 +9,6 @@ use Rattle.jobs.proofs.reading.memory_in.Goals as goal
 
 pub loop-k-preserved : goal.loop-k-preserved
 loop-k-preserved c =
-    let bytes = c.args.bytes.now in
     let blocks = c.blocks_for.ensures ∙ ap blocks_for (c.code_payload.ensures ∙ ap code_payload c.word.ensures) in
     copy_turn 0 _ _ _ _ _ _ _ c.loop-k.invariant (omega arith) (omega arith)
     (c.payload_word.ensures ∙ rw (c.first_code.ensures, blocks))
@@ -18,4 +17,4 @@ pub returns : goal.returns
 unfolding memory_in
 returns c =
     copy_done 0 _ _ _ _ _ _ _ c.loop-k.invariant (omega arith)
-    ∙ copied_zeros (memory_at c.args.bytes.now) _ memory_words c.requires.given
+    ∙ copied_zeros (memory_at _) _ memory_words c.args.job.sized.given

@@ -1,7 +1,6 @@
 use mathlib.Core.Path.{◌≡◌}
 use mathlib.Core.List.{List, flat_map}
-use Prim.Native.Nat.{ℕ, ◌-◌, ◌≤◌}
-use lib.ListN.{length}
+use Prim.Native.Nat.{ℕ, ◌-◌}
 use Rattle.boxes.specs.Boxes.{from}
 use Rattle.blocks.specs.Report.{record_at}
 use Rattle.blocks.specs.Said.{input_in, said_at}
@@ -15,7 +14,4 @@ input_at n bytes i = input_text (input_in n bytes i)
 
 abbrev pub invariant-loop-i : goal.invariant-loop-i
 invariant-loop-i l =
-    (l.i ≤ l.inputs) × (length l.out ≡ length l.initial.out) × (write (output l.out l.p) (flat_map (input_at l.inputs (record_at l.inputs l.report l.k)) (from l.i (l.inputs - l.i))) ≡ write (output l.initial.out l.initial.p) (flat_map input_text (said_at l.inputs l.report l.k).box))
-
-abbrev pub decreases-loop-i : goal.decreases-loop-i
-decreases-loop-i l = l.inputs - l.i
+    write (output l.out l.p) (flat_map (input_at l.inputs (record_at l.inputs l.report l.k)) (from l.i (l.inputs - l.i))) ≡ write (output l.initial.out l.initial.p) (flat_map input_text (said_at l.inputs l.report l.k).box)

@@ -1,7 +1,6 @@
 use mathlib.Core.Path.{◌≡◌}
 use mathlib.Core.List.{List, flat_map}
-use Prim.Native.Nat.{ℕ, ◌-◌, ◌≤◌}
-use lib.ListN.{length}
+use Prim.Native.Nat.{ℕ, ◌-◌}
 use Rattle.boxes.specs.Boxes.{from}
 use Rattle.blocks.specs.Said.{said_at, first_said}
 use Rattle.printing.specs.Printed.{line}
@@ -14,7 +13,4 @@ line_at n report k = line (said_at n report k)
 
 abbrev pub invariant-loop-k : goal.invariant-loop-k
 invariant-loop-k l =
-    (l.k ≤ l.count) × (length l.out ≡ length l.initial.out) × (write (output l.out l.p) (flat_map (line_at l.inputs l.report) (from l.k (l.count - l.k))) ≡ write (output l.initial.out l.initial.p) (flat_map line (first_said l.inputs l.count l.report)))
-
-abbrev pub decreases-loop-k : goal.decreases-loop-k
-decreases-loop-k l = l.count - l.k
+    write (output l.out l.p) (flat_map (line_at l.inputs l.report) (from l.k (l.count - l.k))) ≡ write (output l.initial.out l.initial.p) (flat_map line (first_said l.inputs l.count l.report))

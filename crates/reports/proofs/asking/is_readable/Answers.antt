@@ -1,26 +1,14 @@
--- `reports::asking::is_readable` meets its contract: an input count that fits, and then the tests of the report.
+-- `reports::asking::is_readable` meets its contract: its tests are those of the definition.
 -- Assumes nothing.
-use mathlib.Core.Path.{◌≡◌, sym, ap, ◌∙◌}
-use mathlib.Core.Bool.{Bool, ◌&&◌}
-use Prim.Native.Nat.{ℕ}
-use lib.Dec.{leb}
-use Rattle.calls.specs.Questions.{inputs_fit}
+use Rattle.std.proofs.Common.{rules}
+use borrow.Author.Tests.{tests}
 use Rattle.reports.specs.Readable.{readable}
 use Rattle.reports.proofs.asking.is_readable.Goals as goal
 
-counted : (n : ℕ) {t u : Bool} → t ≡ inputs_fit n → leb 1 n && t ≡ u → leb 1 n && inputs_fit n ≡ u
-counted n e f = ap (λ (b : Bool). leb 1 n && b) (sym e) ∙ f
-
-pub returns-then-not-inputs-inputs_fit : goal.returns-then-not-inputs-inputs_fit
+pub returns-then-counts_agree : goal.returns-then-counts_agree
 unfolding readable
-returns-then-not-inputs-inputs_fit c = rw (counted _ c.inputs_fit.ensures c.if-not-inputs-inputs_fit.true)
+returns-then-counts_agree c = search (rules, tests)
 
-pub returns : goal.returns
+pub returns-else-counts_agree : goal.returns-else-counts_agree
 unfolding readable
-returns c =
-    rw (
-      counted _ c.inputs_fit.ensures c.if-not-inputs-inputs_fit.false,
-      c.record_bytes.ensures,
-      c.counts_agree.ensures,
-      c.checks_agree.ensures,
-    )
+returns-else-counts_agree c = search (rules, tests)

@@ -9,12 +9,12 @@ pub returns-then-record_holds : goal.returns-then-record_holds
 returns-then-record_holds c =
     let l = c.loop-k in
     c.record_word.ensures
-    ∙ sym (l.invariant.1 ∙ placing_stop _ _ l.k _ (omega arith) (sym c.record_holds.ensures ∙ c.if-record_holds.true))
+    ∙ sym (l.invariant ∙ placing_stop _ _ l.k _ (omega arith) (sym c.record_holds.ensures ∙ c.if-record_holds.true))
 
 pub loop-k-preserved : goal.loop-k-preserved
 loop-k-preserved c =
     let l = c.loop-k in
-    (omega arith, l.invariant.1 ∙ placing_go _ _ l.k _ (omega arith) (sym c.record_holds.ensures ∙ c.if-record_holds.false))
+    l.invariant ∙ placing_go _ _ l.k _ (omega arith) (sym c.record_holds.ensures ∙ c.if-record_holds.false)
 
 pub returns : goal.returns
-returns c = sym (c.loop-k.invariant.1 ∙ placing_end _ _ c.loop-k.k _ (omega arith))
+returns c = sym (c.loop-k.invariant ∙ placing_end _ _ c.loop-k.k _ (omega arith))

@@ -1,29 +1,21 @@
--- `reports::placing::record_holds` meets its contract: input by input.
+-- `reports::placing::record_holds` meets its contract: the closure tests the value of its number.
 -- Assumes nothing.
 use mathlib.Core.Path.{sym, ◌∙◌}
 use native.Mathlib.Omega.{arith}
+use borrow.Author.Tests.{tests}
+use Rattle.std.proofs.Common.{rules}
+use Rattle.std.proofs.lemmas.Iterator.{YieldsList-from_range}
+use Rattle.std.proofs.lemmas.Iterator.Search.{all_from_yields_List}
 use Rattle.blocks.specs.Report.{record_at}
-use Rattle.reports.proofs.Records.{inside_stop, inside_go, inside_end}
+use Rattle.blocks.proofs.Each.{each_list}
+use Rattle.reports.proofs.Records.{tested, inside_each}
 use Rattle.reports.proofs.placing.record_holds.Goals as goal
-
-pub returns-then-not-low-x : goal.returns-then-not-low-x
-returns-then-not-low-x c =
-    let l = c.loop-i in
-    let a = c.args in
-    sym (l.invariant.1 ∙ inside_stop a.inputs a.rows.now a.j c.requires.2 (record_at a.inputs a.report.now a.k) l.i (omega arith)
-    c.input_low-low.ensures c.input_high-high.ensures c.if-not-low-x.true)
-
-pub loop-i-preserved : goal.loop-i-preserved
-loop-i-preserved c =
-    let l = c.loop-i in
-    let a = c.args in (
-      omega arith,
-      l.invariant.1 ∙ inside_go a.inputs a.rows.now a.j c.requires.2 (record_at a.inputs a.report.now a.k) l.i (omega arith)
-          c.input_low-low.ensures c.input_high-high.ensures c.if-not-low-x.false,
-    )
 
 pub returns : goal.returns
 returns c =
-    let l = c.loop-i in
-    let a = c.args in
-    sym (l.invariant.1 ∙ inside_end a.inputs a.rows.now a.j c.requires.2 (record_at a.inputs a.report.now a.k) l.i (omega arith))
+    let n = c.args.inputs in
+    let bytes = record_at n c.args.report.now c.args.k in
+    let test = tested n c.args.rows.now c.args.j c.requires.2 bytes in
+    all_from_yields_List test _ _ _ c.all.ensures.ran (YieldsList-from_range 0 n n (cc) (omega arith)) (λ x b q k. search (rules, tests))
+    ∙ each_list test n 0
+    ∙ sym (inside_each n c.args.rows.now c.args.j c.requires.2 bytes n 0 (omega arith))

@@ -1,29 +1,31 @@
+use mathlib.Core.Path.{refl, sym, ap, ◌∙◌}
 use borrow.Author.Rules.{rules}
-use mathlib.Core.Path.{◌≡◌, sym, ◌∙◌}
-use Prim.Native.Nat.{suc, ◌+◌}
-use native.Mathlib.Omega.{arith}
-use lib.ListN.{drop}
-use Rattle.riscu.proofs.Rows.{hit, miss, past}
-use Rattle.riscu.specs.Decode.{rows}
-use Rattle.riscu.specs.Working.Table.{table, first_of}
+use borrow.Author.Tests.{eq-eqb}
+use Rattle.std.specs.Prelude.{Option}
+use Rattle.riscu.specs.declared.decoder.Row.{Row}
+use Rattle.riscu.specs.Decode.{decode_of}
+use Rattle.riscu.specs.Working.Table.{form_of, instruction_of}
+use Rattle.riscu.proofs.Rows.{table, hit, miss, past, decoded}
 use Rattle.riscu.proofs.decoder.row_of.Goals as goal
 
-pub returns-then-fields_agree : goal.returns-then-fields_agree
-unfolding table rows
-returns-then-fields_agree c =
-    let e : first_of (drop c.loop-i.i table) c.args.w ≡ 0 = hit table c.loop-i.i c.args.w _ (search rules) (sym c.fields_agree.ensures ∙ c.if-fields_agree.true) in
-    omega (arith, c.loop-i.invariant.1)
+pub returns-then-w-eq115 : goal.returns-then-w-eq115
+unfolding decode_of instruction_of
+returns-then-w-eq115 c = simp (eq-eqb c.args.w 115 c.if-w-eq115.true) refl
 
-pub loop-i-preserved : goal.loop-i-preserved
-unfolding table rows
-loop-i-preserved c =
-    let i = c.loop-i.i in
+pub returns-then-fields_agree : goal.returns-then-fields_agree
+unfolding table
+returns-then-fields_agree c =
     let w = c.args.w in
-    let e : first_of (drop i table) w ≡ suc (first_of (drop (i + 1) table) w) = miss table i w _ (search rules) (sym c.fields_agree.ensures ∙ c.if-fields_agree.false) in
-    (search rules, omega (arith, c.loop-i.invariant.1))
+    let found = c.loop-f.invariant ∙ hit table c.loop-f.f-index w _ (search rules) (sym c.fields_agree.ensures ∙ c.if-fields_agree.true) in
+    ap (λ (r : Option Row). form_of r w) (sym found) ∙ decoded w c.if-w-eq115.false
+
+pub loop-f-preserved : goal.loop-f-preserved
+unfolding table
+loop-f-preserved c =
+    c.loop-f.invariant ∙ miss table c.loop-f.f-index c.args.w _ (search rules) (sym c.fields_agree.ensures ∙ c.if-fields_agree.false)
 
 pub returns : goal.returns
+unfolding table
 returns c =
-    let i = c.loop-i.i in
-    let e : first_of (drop i table) c.args.w ≡ 0 = past c.args.w i (omega arith) in
-    omega (arith, c.loop-i.invariant.1)
+    let w = c.args.w in
+    ap (λ (r : Option Row). form_of r w) (sym (c.loop-f.invariant ∙ past w c.loop-f.f-index (search rules))) ∙ decoded w c.if-w-eq115.false

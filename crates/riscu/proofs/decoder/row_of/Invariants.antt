@@ -1,11 +1,7 @@
 use mathlib.Core.Path.{◌≡◌}
-use Prim.Native.Nat.{◌+◌, ◌-◌, ◌≤◌}
 use lib.ListN.{drop}
-use Rattle.riscu.specs.Working.Table.{table, first_of}
+use Rattle.riscu.proofs.Rows.{table, find_row}
 use Rattle.riscu.proofs.decoder.row_of.Given as goal
 
-abbrev pub invariant-loop-i : goal.invariant-loop-i
-invariant-loop-i l = (l.i ≤ 14) × (first_of table l.w ≡ l.i + first_of (drop l.i table) l.w)
-
-abbrev pub decreases-loop-i : goal.decreases-loop-i
-decreases-loop-i l = 14 - l.i
+abbrev pub invariant-loop-f : goal.invariant-loop-f
+invariant-loop-f l = find_row table l.w ≡ find_row (drop l.f-index table) l.w

@@ -1,14 +1,20 @@
-use mathlib.Core.Path.{refl}
-use Rattle.riscu.specs.Machine.{read_next, step}
+use mathlib.Core.Path.{refl, sym, ap, ◌∙◌}
+use Prim.Native.Nat.{ℕ}
+use Rattle.std.proofs.Common.{ltb-true}
+use Rattle.std.proofs.lemmas.Grind.{get_or_default_zero}
+use Rattle.riscu.specs.Machine.{with_input, read_next, step}
+use Rattle.riscu.specs.Working.Parts.{state}
 use Rattle.riscu.proofs.Joins.{join}
-use borrow.Author.Tests.{lt-ltb, le-ltb}
 use Rattle.riscu.proofs.plain.ecall.Goals as goal
 
-pub returns-then-k-inputs : goal.returns-then-k-inputs
+pub returns-in-Some : goal.returns-in-Some
 unfolding step read_next
-returns-then-k-inputs c = rw (lt-ltb _ _ c.if-k-inputs.true) c.read_input.ensures
+returns-in-Some c =
+    let a = c.args in
+    let l = c.in-Some.ensures.lookup in
+    let s = state a.at a.registers.now a.memory.now in
+    rw (sym l.0) (c.read_input.ensures ∙ ap (λ (v : ℕ). with_input v s) (l.1 ∙ get_or_default_zero _ _ _ (ltb-true _ _ (sym l.0))))
 
-pub returns-else-k-inputs : goal.returns-else-k-inputs
+pub returns-in_default : goal.returns-in_default
 unfolding step read_next
-returns-else-k-inputs c =
-    rw (le-ltb _ _ c.if-k-inputs.false) (join c.next.ensures c.put.ensures refl)
+returns-in_default c = let l = c.in_default.ensures.lookup in rw (sym l.0) (join c.next.ensures c.put.ensures refl)

@@ -19,7 +19,7 @@ pub returns-in-Mul : goal.returns-in-Mul
 unfolding operate
 returns-in-Mul c =
     let a = c.args in
-    c.product-p.ensures.0 ∙ ap (λ (o : Operation). operate o a.a a.b) (sym c.in-Mul.is)
+    ap (λ (o : Operation). operate o a.a a.b) (sym c.in-Mul.is)
 
 pub returns-in-Sltu : goal.returns-in-Sltu
 unfolding operate

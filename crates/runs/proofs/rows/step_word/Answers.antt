@@ -1,5 +1,11 @@
-use Rattle.riscu.proofs.Rows.{decoded}
+use mathlib.Core.Path.{sym}
+use Rattle.riscu.specs.Machine.{step_decoded}
 use Rattle.runs.proofs.rows.step_word.Goals as goal
 
-pub returns : goal.returns
-returns c = rw (c.row_of-row.ensures, decoded c.args.word) at c.step_row.ensures
+pub returns-in-Some : goal.returns-in-Some
+unfolding step_decoded
+returns-in-Some c = rw (sym c.in-Some.ensures) c.step_row.ensures
+
+pub returns-in-None : goal.returns-in-None
+unfolding step_decoded
+returns-in-None c = rw (sym c.in-None.ensures)

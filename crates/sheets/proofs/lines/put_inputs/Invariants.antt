@@ -1,8 +1,7 @@
 -- `sheets::lines::put_inputs`: input by input.
 use mathlib.Core.Path.{◌≡◌}
 use mathlib.Core.List.{flat_map}
-use Prim.Native.Nat.{◌-◌, ◌≤◌}
-use lib.ListN.{length}
+use Prim.Native.Nat.{◌-◌}
 use Rattle.boxes.specs.Boxes.{from}
 use Rattle.blocks.specs.Report.{record_at}
 use Rattle.blocks.specs.Said.{input_in, said_at}
@@ -13,7 +12,4 @@ use Rattle.sheets.proofs.lines.put_inputs.Given as goal
 
 abbrev pub invariant-loop-i : goal.invariant-loop-i
 invariant-loop-i l =
-    (l.i ≤ l.inputs) × (length l.out ≡ length l.initial.out) × (write (output l.out l.p) (flat_map (line_of_input (input_in l.inputs (record_at l.inputs l.report l.k))) (from l.i (l.inputs - l.i))) ≡ write (output l.initial.out l.initial.p) (input_lines 0 (said_at l.inputs l.report l.k).box))
-
-abbrev pub decreases-loop-i : goal.decreases-loop-i
-decreases-loop-i l = l.inputs - l.i
+    write (output l.out l.p) (flat_map (line_of_input (input_in l.inputs (record_at l.inputs l.report l.k))) (from l.i (l.inputs - l.i))) ≡ write (output l.initial.out l.initial.p) (input_lines 0 (said_at l.inputs l.report l.k).box)

@@ -1,7 +1,6 @@
 -- `sheets::lines::put_sheet` meets its contract: record by record.
 -- Assumes nothing.
-use mathlib.Core.Path.{refl, sym, ap, ◌∙◌}
-use Prim.Native.Nat.{zero-le}
+use mathlib.Core.Path.{sym, ap, ◌∙◌}
 use native.Mathlib.Nat.{sub-zero}
 use native.Mathlib.Omega.{arith}
 use Rattle.boxes.specs.Boxes.{from}
@@ -17,18 +16,18 @@ pub loop-k-init : goal.loop-k-init
 loop-k-init c =
     let a = c.args in
     let n = records_in a.inputs a.report.now in
-    (zero-le, refl, rw (sub-zero, c.records_in-n.ensures) (ap (write _) (sym (flat_map_lem path_lines (said_at a.inputs a.report.now) (from 0 n)))))
+    rw (sub-zero, c.records_in-k-end.ensures) (ap (write _) (sym (flat_map_lem path_lines (said_at a.inputs a.report.now) (from 0 n))))
 
 pub loop-k-preserved : goal.loop-k-preserved
 loop-k-preserved c =
     let put = c.put_record-p in
     let l = c.loop-k in
     let a = c.args in
-    (omega arith, put.auto.out ∙ l.invariant.1, part_turn (lines_at a.inputs a.report.now) (output l.out l.p) c.records_in-n.result l.k (omega arith) put.ensures ∙ l.invariant.2)
+    part_turn (lines_at a.inputs a.report.now) (output l.out l.p) c.records_in-k-end.result l.k (omega arith) put.ensures ∙ l.invariant
 
 pub returns : goal.returns
 returns c =
     let l = c.loop-k in
     let a = c.args in
-    let done = part_done (lines_at a.inputs a.report.now) (output l.out l.p) c.records_in-n.result l.k (omega arith) in
-    write_all (sheet_text a.inputs a.report.now) a.out.now (done ∙ l.invariant.2)
+    let done = part_done (lines_at a.inputs a.report.now) (output l.out l.p) c.records_in-k-end.result l.k (omega arith) in
+    write_all (sheet_text a.inputs a.report.now) a.out.now (done ∙ l.invariant)

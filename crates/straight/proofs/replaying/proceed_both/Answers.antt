@@ -3,6 +3,6 @@ use Prim.Native.Nat.{zero-le}
 use mathlib.Core.Path.{refl}
 use Rattle.straight.proofs.replaying.proceed_both.Goals as goal
 
-pub loop-k-init : goal.loop-k-init
+pub loop-so_far-init : goal.loop-so_far-init
 unfolding lock_steps
-loop-k-init c = (zero-le, refl)
+loop-so_far-init c = (zero-le, refl)

@@ -1,11 +1,14 @@
-use Rattle.straight.proofs.Taking.{goes}
+use Rattle.straight.proofs.Taking.{goes, moves}
 use Rattle.listing.specs.Group.{sorting_of, class_by, class_of}
 use Rattle.listing.specs.Ending.{operand_points, address_points, points, writes}
 use Rattle.decide.specs.Working.Corner.{verdict}
-use Rattle.corners.specs.Working.Tags.{tag_step}
-use Rattle.lockstep.specs.Working.LockStep.{tagged, pair}
+use Rattle.corners.specs.Working.Tags.{to_register, tag_step}
+use Rattle.lockstep.specs.Working.LockStep.{tags_of}
 use Rattle.riscu.specs.declared.Instruction.TheVariants.{Ld}
+use Rattle.words.specs.Word.{word, widen}
 use Rattle.words.proofs.Signs.{held, held_is}
+use Prim.Native.Nat.{◌+◌, ◌/◌}
+use lib.ListN.{get_or}
 use mathlib.Core.Path.{refl, sym, ◌∙◌}
 use Rattle.straight.proofs.rows.straight_load.Goals as goal
 
@@ -13,9 +16,10 @@ pub returns : goal.returns
 unfolding points address_points sorting_of operand_points verdict class_of class_by writes tag_step
 returns c =
     let a = c.args in
-    let passes = sym c.access_points-v.ensures ∙ c.in-Passes.is in
+    let m = a.m.now in
+    let left = c.in_ok-writes.ensures in
+    let passes = sym c.access_points-v.ensures ∙ c.in-Ok.is in
     rw (← held_is a.imm c.ranges.imm.sfits) (
-      goes (Ld a.rd a.rs1 (held a.imm)) passes refl (λ left. c.one_unless_zero-w.ensures) c.if-entries-w.false,
-      λ lows highs. λ j.
-          pair (c.ld-l.ensures lows j) (c.ld-h.ensures highs j) (tagged (c.mark_loaded.ensures j) a.tagmem.now),
+      goes (Ld a.rd a.rs1 (held a.imm)) passes refl (λ b. left.0) left.1,
+      moves (Ld a.rd a.rs1 (held a.imm)) a.at m (to_register a.rd (get_or m.tagmem (word (get_or m.low a.rs1 0 + widen (held a.imm)) / 8) 0) (tags_of m)) c.mark_loaded.ensures c.ld-low.ensures c.ld-high.ensures refl (λ b. refl),
     )

@@ -1,70 +1,70 @@
 use Rattle.straight.proofs.Taking.{of_row}
 use Rattle.riscu.specs.declared.Operation.TheVariants.{Add, Sub, Mul, Divu, Remu, Sltu}
-use Rattle.riscu.proofs.Rows.{lui_row, immediate_row, register_row_lem, ld_row, sd_row, branch_row, jal_row}
+use Rattle.riscu.proofs.Rows.{lui_row, immediate_row, operation_row, ld_row, sd_row, branch_row, jal_row}
 use Rattle.straight.proofs.rows.straight_row.Goals as goal
 
-pub returns-in-0 : goal.returns-in-0
-returns-in-0 c =
+pub returns-in-Lui : goal.returns-in-Lui
+returns-in-Lui c =
     let a = c.args in
     let z = c.imm_u in
-    of_row a.entries a.at _ _ (lui_row a.w c.in-0.is z.type_inv z.ensures) c.straight_lui.result (c.straight_lui.ensures a.lowmem.now a.highmem.now a.tagmem.now)
+    of_row a.entries a.at _ _ (lui_row a.w c.in-Lui.is z.type_inv z.ensures) c.straight_lui.result c.straight_lui.ensures
 
-pub returns-in-1 : goal.returns-in-1
-returns-in-1 c =
+pub returns-in-Addi : goal.returns-in-Addi
+returns-in-Addi c =
     let a = c.args in
     let z = c.imm_i in
-    of_row a.entries a.at _ _ (immediate_row a.w c.in-1.is z.type_inv z.ensures) c.straight_immediate.result (c.straight_immediate.ensures a.lowmem.now a.highmem.now a.tagmem.now)
+    of_row a.entries a.at _ _ (immediate_row a.w c.in-Addi.is z.type_inv z.ensures) c.straight_immediate.result c.straight_immediate.ensures
 
-pub returns-in-2 : goal.returns-in-2
-returns-in-2 c =
+pub returns-in-Add : goal.returns-in-Add
+returns-in-Add c =
     let a = c.args in
-    of_row a.entries a.at _ _ (register_row_lem a.w Add c.in-2.is) c.straight_operation.result (c.straight_operation.ensures a.lowmem.now a.highmem.now a.tagmem.now)
+    of_row a.entries a.at _ _ (operation_row a.w Add c.in-Add.is) c.straight_operation.result c.straight_operation.ensures
 
-pub returns-in-3 : goal.returns-in-3
-returns-in-3 c =
+pub returns-in-Sub : goal.returns-in-Sub
+returns-in-Sub c =
     let a = c.args in
-    of_row a.entries a.at _ _ (register_row_lem a.w Sub c.in-3.is) c.straight_operation-in-3.result (c.straight_operation-in-3.ensures a.lowmem.now a.highmem.now a.tagmem.now)
+    of_row a.entries a.at _ _ (operation_row a.w Sub c.in-Sub.is) c.straight_operation-in-Sub.result c.straight_operation-in-Sub.ensures
 
-pub returns-in-4 : goal.returns-in-4
-returns-in-4 c =
+pub returns-in-Mul : goal.returns-in-Mul
+returns-in-Mul c =
     let a = c.args in
-    of_row a.entries a.at _ _ (register_row_lem a.w Mul c.in-4.is) c.straight_operation-in-4.result (c.straight_operation-in-4.ensures a.lowmem.now a.highmem.now a.tagmem.now)
+    of_row a.entries a.at _ _ (operation_row a.w Mul c.in-Mul.is) c.straight_operation-in-Mul.result c.straight_operation-in-Mul.ensures
 
-pub returns-in-5 : goal.returns-in-5
-returns-in-5 c =
+pub returns-in-Divu : goal.returns-in-Divu
+returns-in-Divu c =
     let a = c.args in
-    of_row a.entries a.at _ _ (register_row_lem a.w Divu c.in-5.is) c.straight_operation-in-5.result (c.straight_operation-in-5.ensures a.lowmem.now a.highmem.now a.tagmem.now)
+    of_row a.entries a.at _ _ (operation_row a.w Divu c.in-Divu.is) c.straight_operation-in-Divu.result c.straight_operation-in-Divu.ensures
 
-pub returns-in-6 : goal.returns-in-6
-returns-in-6 c =
+pub returns-in-Remu : goal.returns-in-Remu
+returns-in-Remu c =
     let a = c.args in
-    of_row a.entries a.at _ _ (register_row_lem a.w Remu c.in-6.is) c.straight_operation-in-6.result (c.straight_operation-in-6.ensures a.lowmem.now a.highmem.now a.tagmem.now)
+    of_row a.entries a.at _ _ (operation_row a.w Remu c.in-Remu.is) c.straight_operation-in-Remu.result c.straight_operation-in-Remu.ensures
 
-pub returns-in-7 : goal.returns-in-7
-returns-in-7 c =
+pub returns-in-Sltu : goal.returns-in-Sltu
+returns-in-Sltu c =
     let a = c.args in
-    of_row a.entries a.at _ _ (register_row_lem a.w Sltu c.in-7.is) c.straight_operation-in-7.result (c.straight_operation-in-7.ensures a.lowmem.now a.highmem.now a.tagmem.now)
+    of_row a.entries a.at _ _ (operation_row a.w Sltu c.in-Sltu.is) c.straight_operation-in-Sltu.result c.straight_operation-in-Sltu.ensures
 
-pub returns-in-8 : goal.returns-in-8
-returns-in-8 c =
+pub returns-in-Ld : goal.returns-in-Ld
+returns-in-Ld c =
     let a = c.args in
-    let z = c.imm_i-in-8 in
-    of_row a.entries a.at _ _ (ld_row a.w c.in-8.is z.type_inv z.ensures) c.straight_load.result c.straight_load.ensures
+    let z = c.imm_i-in-Ld in
+    of_row a.entries a.at _ _ (ld_row a.w c.in-Ld.is z.type_inv z.ensures) c.straight_load.result c.straight_load.ensures
 
-pub returns-in-9 : goal.returns-in-9
-returns-in-9 c =
+pub returns-in-Sd : goal.returns-in-Sd
+returns-in-Sd c =
     let a = c.args in
     let z = c.imm_s in
-    of_row a.entries a.at _ _ (sd_row a.w c.in-9.is z.type_inv z.ensures) c.straight_store.result c.straight_store.ensures
+    of_row a.entries a.at _ _ (sd_row a.w c.in-Sd.is z.type_inv z.ensures) c.straight_store.result c.straight_store.ensures
 
-pub returns-in-10 : goal.returns-in-10
-returns-in-10 c =
+pub returns-in-Beq : goal.returns-in-Beq
+returns-in-Beq c =
     let a = c.args in
     let z = c.imm_b in
-    of_row a.entries a.at _ _ (branch_row a.w c.in-10.is z.type_inv z.ensures) c.straight_branch.result (c.straight_branch.ensures a.entries a.tags.now a.lowmem.now a.highmem.now a.tagmem.now)
+    of_row a.entries a.at _ _ (branch_row a.w c.in-Beq.is z.type_inv z.ensures) c.straight_branch.result (c.straight_branch.ensures a.entries)
 
-pub returns-in-11 : goal.returns-in-11
-returns-in-11 c =
+pub returns-in-Jal : goal.returns-in-Jal
+returns-in-Jal c =
     let a = c.args in
     let z = c.imm_j in
-    of_row a.entries a.at _ _ (jal_row a.w c.in-11.is z.type_inv z.ensures) c.straight_jump.result (c.straight_jump.ensures a.lowmem.now a.highmem.now a.tagmem.now)
+    of_row a.entries a.at _ _ (jal_row a.w c.in-Jal.is z.type_inv z.ensures) c.straight_jump.result c.straight_jump.ensures

@@ -1,5 +1,5 @@
-use Rattle.riscu.proofs.Rows.{decoded}
+use mathlib.Core.Path.{sym}
 use Rattle.straight.proofs.rows.straight_word.Goals as goal
 
-pub returns : goal.returns
-returns c = rw (c.row_of-row.ensures, decoded c.args.word) at c.straight_row.ensures
+pub returns-in-Some : goal.returns-in-Some
+returns-in-Some c = rw (sym c.in-Some.ensures) c.straight_row.ensures

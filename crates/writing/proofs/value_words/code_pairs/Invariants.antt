@@ -1,6 +1,5 @@
 -- `writing::value_words::code_pairs` meets its contract: pair by pair, onto zeros.
 -- Assumes nothing.
-use Prim.Native.Nat.{◌-◌}
 use lib.ListN.{length}
 use Rattle.riscu.specs.Limits.{code_words}
 use Rattle.jobs.specs.Job.{code_payload}
@@ -9,7 +8,4 @@ use Rattle.writing.specs.Form.{code_pair}
 use Rattle.writing.proofs.value_words.code_pairs.Given as goal
 
 abbrev pub invariant-loop-i : goal.invariant-loop-i
-invariant-loop-i l = Copying 0 (code_pair l.code) (code_payload code_words) (code_payload (length l.code)) l.initial.words l.n l.words l.i
-
-abbrev pub decreases-loop-i : goal.decreases-loop-i
-decreases-loop-i l = l.n - l.i
+invariant-loop-i l = Copying 0 (code_pair l.code) (code_payload code_words) (code_payload (length l.code)) l.initial.words l.i-end l.words l.i

@@ -6,4 +6,4 @@ use Rattle.writing.proofs.value_words.header_words.Goals as goal
 
 pub returns : goal.returns
 unfolding header_words
-returns c = c.with_inputs.ensures ∙ rw c.requires.1
+returns c = c.put_inputs.ensures ∙ rw c.requires.1

@@ -8,9 +8,9 @@ use Rattle.writing.proofs.writing.put_job.Goals as goal
 
 pub returns : goal.returns
 returns c =
-    let code = c.args.code.now in
-    let given = c.args.given.now in
-    let j = values_of code given c.args.intervals.now c.args.limit c.args.first in
+    let code = c.args.values.code.now in
+    let given = c.args.values.memory.now in
+    let j = values_of code given c.args.values.intervals.now c.args.values.limit c.args.values.first in
     let count = c.code_payload-n.ensures in
     job_put j c.args.job.now (rw c.requires.last c.requires.room)
     c.first_code-at.ensures

@@ -1,6 +1,0 @@
-use Rattle.jobs.specs.Job.{payload_at}
-use Rattle.jobs.proofs.job_words.payload_word.Goals as goal
-
-pub returns : goal.returns
-unfolding payload_at
-returns c = c.word.ensures
