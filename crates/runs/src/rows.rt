@@ -1,8 +1,8 @@
 // One step of the plain machine, by the row of its word.
-ghost use Rattle.std.specs.Prelude.{◌≡◌};
+ghost use Rattle.std.specs.Prelude.{◌≡◌, Some};
 ghost use Rattle.riscu.specs.Decode.{decode_of};
-ghost use Rattle.riscu.specs.Working.Table.{instruction_of};
-ghost use Rattle.riscu.specs.Machine.{step, step_decoded};
+ghost use Rattle.riscu.specs.Working.Table.{form_of};
+ghost use Rattle.riscu.specs.Machine.{step_decoded};
 ghost use Rattle.riscu.specs.Working.Parts.{state};
 
 use riscu::decoder::{Row, imm_b, imm_i, imm_j, imm_s, imm_u, row_of};
@@ -11,7 +11,7 @@ use riscu::plain::{
 };
 use riscu::{At, Condition, Operation};
 
-// The step of a word of that row.
+// The step of a word of that row; a word that is no instruction moves nothing.
 fn step_row(
     row: Row,
     w: usize,
@@ -20,7 +20,7 @@ fn step_row(
     inputs: &[u64],
     at: At,
 ) -> At
-    ensures { state result registers.new memory.new ≡ step inputs.now (instruction_of row w) (state at registers.old memory.old) }
+    ensures { state result registers.new memory.new ≡ step_decoded inputs.now (form_of (Some row) w) (state at registers.old memory.old) }
 {
     let rd = w / 128 % 32;
     let rs1 = w / 32768 % 32;
@@ -40,11 +40,17 @@ fn step_row(
         Row::Beq => branch(registers, Condition::Equal, rs1, rs2, imm_b(w), at),
         Row::Jal => jal(registers, rd, imm_j(w), at),
         Row::Jalr => jalr(registers, rd, rs1, imm_i(w), at),
-        Row::Ecall => ecall(registers, memory, inputs, at),
+        Row::Ecall => {
+            if w == 115 {
+                ecall(registers, memory, inputs, at)
+            } else {
+                at
+            }
+        }
     }
 }
 
-// The step of a word; a word that is no instruction moves nothing.
+// The step of a word.
 pub(crate) fn step_word(
     word: u32,
     registers: &mut Registers,

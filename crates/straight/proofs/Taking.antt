@@ -51,9 +51,9 @@ moves i a x t e l h k f lows highs =
     λ j. pair (low j) (high j) (tags j)
 
 -- a row's straight step is that of a word of the row
-pub of_row : {i k : Instruction} (entries : ℕ) (a : Corners) (x y : Machines) → k ≡ i → (r : Option Taken)
-    → Stepped entries i a x y r → FormStepped entries (Some k) a x y r
-of_row {i = i} entries a x y e (Some t) s = record { instruction = i; is = ap Some e; goes = s.0; moves = s.1 }
+pub of_row : {d : Option Instruction} {i : Instruction} (entries : ℕ) (a : Corners) (x y : Machines) → d ≡ Some i → (r : Option Taken)
+    → Stepped entries i a x y r → FormStepped entries d a x y r
+of_row {i = i} entries a x y e (Some t) s = record { instruction = i; is = e; goes = s.0; moves = s.1 }
 of_row entries a x y e None s = s
 
 -- the decision on a word that the code has at pc

@@ -3,7 +3,7 @@
 ghost use Rattle.std.specs.Prelude.{ℕ, Some};
 ghost use Rattle.riscu.specs.declared.Instruction.TheVariants.{Lui, Immediate, Register, Ld, Sd, Branch, Jal};
 ghost use Rattle.riscu.specs.Decode.{decode_of};
-ghost use Rattle.riscu.specs.Working.Table.{instruction_of};
+ghost use Rattle.riscu.specs.Working.Table.{form_of};
 ghost use Rattle.straight.specs.Working.Stepped.{Stepped, FormStepped, Room};
 
 use crate::Taken;
@@ -181,7 +181,7 @@ fn straight_jump(
 
 // The straight step of a word of that row; a call and a computed jump are left.
 fn straight_row(m: &mut Machines, row: Row, w: usize, entries: usize, at: Corners) -> Option<Taken>
-    ensures { FormStepped entries (Some (instruction_of row w)) at m.old m.new result }
+    ensures { FormStepped entries (form_of (Some row) w) at m.old m.new result }
 {
     let rd = w / 128 % 32;
     let rs1 = w / 32768 % 32;

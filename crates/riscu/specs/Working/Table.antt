@@ -1,7 +1,6 @@
--- The rows of the instruction table by the code's names, and what a word is as a word of each.
-use Rattle.std.specs.Prelude.{ℕ, ◌%◌, Bool, ◌&&◌, eqb, Option, Some, None}
-use Rattle.std.specs.Option.{option_map}
-use Rattle.riscu.specs.Decode.{bits, Field, any, is, fits, rd_of, rs1_of, rs2_of, imm_i, imm_s, imm_b, imm_u, imm_j}
+-- The instruction table as the code holds it: a constant array of fields, and what a word is as a word of each row.
+use Rattle.std.specs.Prelude.{ℕ, ◌%◌, Bool, cond, ◌&&◌, List, [], ◌∷◌, ◌++◌, eqb, Option, Some, None}
+use Rattle.riscu.specs.Decode.{bits, Field, any, is, fits, Format, rows, ecall_word, rd_of, rs1_of, rs2_of, imm_i, imm_s, imm_b, imm_u, imm_j}
 use Rattle.riscu.specs.declared.Operation.{Operation}
 use Rattle.riscu.specs.declared.Operation.TheVariants.{Add, Sub, Mul, Divu, Remu, Sltu}
 use Rattle.riscu.specs.declared.Condition.TheVariants.{Equal}
@@ -30,9 +29,11 @@ instruction_of JAL w = Jal (rd_of w) (imm_j w)
 instruction_of JALR w = Jalr (rd_of w) (rs1_of w) (imm_i w)
 instruction_of ECALL w = Ecall
 
--- what a word is as a word of a row, or as one of none
+-- what a word is as a word of a row, or as one of none; ECALL is one whole word
 abbrev pub form_of : Option Row → ℕ → Option Instruction
-form_of row w = option_map (λ r. instruction_of r w) row
+form_of None w = None
+form_of (Some ECALL) w = cond (eqb w ecall_word) (Some Ecall) None
+form_of (Some r) w = Some (instruction_of r w)
 
 -- a field as the code holds it: none is any
 abbrev pub field_of : Option ℕ → Field
@@ -41,3 +42,35 @@ field_of (Some n) = is n
 
 abbrev pub agrees : Fields → ℕ → Bool
 agrees f w = eqb (w % 128) f.opcode && fits (field_of f.funct3) (bits 12 3 w) && fits (field_of f.funct7) (bits 25 7 w)
+
+-- a field as the code holds it
+abbrev held_field : Field → Option ℕ
+held_field any = None
+held_field (is n) = Some n
+
+abbrev fields : Row → Format → Fields
+fields r f = record { row = r; opcode = f.opcode; funct3 = held_field f.funct3; funct7 = held_field f.funct7 }
+
+abbrev fields_of : Row → ℕ → Fields
+fields_of r w = record { row = r; opcode = bits 0 7 w; funct3 = Some (bits 12 3 w); funct7 = Some (bits 25 7 w) }
+
+-- the rows by their names
+abbrev named : List Row → List Format → List Fields
+named [] fs = []
+named (r ∷ rs) [] = []
+named (r ∷ rs) (f ∷ fs) = fields r f ∷ named rs fs
+
+abbrev names : List Row
+names = LUI ∷ ADDI ∷ ADD ∷ SUB ∷ MUL ∷ DIVU ∷ REMU ∷ SLTU ∷ LD ∷ SD ∷ BEQ ∷ JAL ∷ JALR ∷ []
+
+-- the rows, and the last one's word
+unfoldable pub table : List Fields
+table = named names rows ++ (fields_of ECALL ecall_word ∷ [])
+
+-- the first of the rows that w matches
+unfoldable pub find_row : List Fields → ℕ → Option Row
+find_row [] w = None
+find_row (f ∷ fs) w = cond (agrees f w) (Some f.row) (find_row fs w)
+
+abbrev pub row_of : ℕ → Option Row
+row_of w = find_row table w

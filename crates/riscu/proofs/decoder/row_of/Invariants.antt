@@ -1,6 +1,6 @@
 use mathlib.Core.Path.{◌≡◌}
 use lib.ListN.{drop}
-use Rattle.riscu.proofs.Rows.{table, find_row}
+use Rattle.riscu.specs.Working.Table.{table, find_row}
 use Rattle.riscu.proofs.decoder.row_of.Given as goal
 
 abbrev pub invariant-loop-f : goal.invariant-loop-f
