@@ -59,7 +59,7 @@ fn agrees(line: &[u8]) -> bool {
     0 < c.steps && register(&registers, r) == c.value && at.pc == c.pc
 }
 
-// Prints how many cases stand under a name; a line without one has none.
+// Prints how many cases stand under a name; where the text ends before it, there is none.
 fn print_count(rt: &impl Print, name: Option<&[u8]>, count: u64) -> io::Result<()> {
     let Some(name) = name else {
         return Ok(());
@@ -68,18 +68,20 @@ fn print_count(rt: &impl Print, name: Option<&[u8]>, count: u64) -> io::Result<(
     println!(rt; "{count}")
 }
 
-// The lines of one name stand one after another.
+// The lines of one name stand one after another. A name is taken from the text, so that a line shorter than it has one too.
 fn run_all(rt: &impl Print, text: &[u8]) -> io::Result<()> {
     let mut tally = Tally::new();
+    let mut rest = text;
     let mut name = text.get(..NAME);
     let mut before: u64 = 0;
     for line in Lines::new(text) {
-        if line.get(..NAME) != name {
+        if rest.get(..NAME) != name {
             print_count(rt, name, tally.lines - before)?;
-            name = line.get(..NAME);
+            name = rest.get(..NAME);
             before = tally.lines;
         }
         tally.add(rt, agrees(line));
+        rest = rest.get(line.len() + 1..).unwrap_or(&[]);
     }
     print_count(rt, name, tally.lines - before)?;
     println!(rt; "{} cases, {} differ", tally.lines, tally.differ)
