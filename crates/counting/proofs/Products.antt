@@ -25,8 +25,11 @@ pub record Multiplied (b rest : Box) (n : ℕ) : Type 0 where
   pub some : 1 ≤ n
   pub proper : Proper rest
 
-pub none_multiplied : (b : Box) → Proper b → Multiplied b b 1
-none_multiplied b proper = record { product = one-mul (size b); some = omega arith; proper = proper }
+pub none_multiplied : (b : Box) → (1 * size b ≡ size b) × (1 ≤ 1)
+none_multiplied b = (one-mul (size b), omega arith)
+
+pub begin_multiplied : (b : Box) → Proper b → Multiplied b b 1
+begin_multiplied b proper = let h = none_multiplied b in record { product = h.0; some = h.1; proper = proper }
 
 pub all_multiplied : (b rest : Box) {n : ℕ} → Multiplied b rest n → length rest ≡ 0 → n ≡ size b
 unfolding size choices

@@ -2,9 +2,12 @@
 use Rattle.std.specs.Prelude.{Ok, Err}
 use mathlib.Core.Path.{◌≡◌, refl}
 use mathlib.Core.List.{List, [], ◌∷◌, ◌++◌}
-use Prim.Native.Nat.{ℕ}
+use Prim.Native.Nat.{ℕ, ◌+◌, ◌-◌, ◌<◌, ◌≤◌, min, max}
+use native.Mathlib.Omega.{arith}
+use lib.Dec.{ltb}
 use lib.IntN.{ℤ}
 use Rattle.boxes.proofs.Lists.{by_test}
+use Rattle.corners.proofs.Operations.{ltb_same}
 use Rattle.riscu.specs.declared.Condition.{Condition}
 use Rattle.riscu.specs.declared.Condition.TheVariants.{Equal}
 use Rattle.riscu.specs.declared.Instruction.TheVariants.{Branch}
@@ -32,3 +35,10 @@ pub branch_points : (v : View) (on : Condition) (rs1 rs2 : ℕ) (imm : ℤ)
     → points v (Branch on rs1 rs2 imm) ≡ operand_points v (Compares (InRegister rs1) (InRegister rs2))
 unfolding points address_points sorting_of
 branch_points v Equal rs1 rs2 imm = refl
+
+-- quotients more than 1 apart, by the difference of the greater and the less
+pub apart_rising : (a b : ℕ) → a < b → ltb 1 (b - a) ≡ ltb (min a b + 1) (max a b)
+apart_rising a b h = ltb_same 1 (b - a) (min a b + 1) (max a b) (λ k. omega arith) (λ k. omega arith)
+
+pub apart_falling : (a b : ℕ) → b ≤ a → ltb 1 (a - b) ≡ ltb (min a b + 1) (max a b)
+apart_falling a b h = ltb_same 1 (a - b) (min a b + 1) (max a b) (λ k. omega arith) (λ k. omega arith)

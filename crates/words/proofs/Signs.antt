@@ -1,6 +1,6 @@
 -- Signed numbers: the number that a width's bits hold, a number as its 64 bits, and what a signed local holds. Assumes nothing.
-use Rattle.std.proofs.Common.{◌≡◌, ℕ, zero, suc, ◌+◌, ◌-◌, ◌*◌, ◌%◌, ◌^◌, ◌<◌, ◌≤◌, ℤ, pos, negsuc, ◌-ℤ◌, refl, ap, ◌∙◌, one-mul, zero-add, arith, lit<, pow_mono, pow-add, shl_exact, to_z-of_z, w64, SFits, to_z, of_z}
-use lib.Signed.{mag}
+use Rattle.std.proofs.Common.{◌≡◌, ℕ, zero, suc, ◌+◌, ◌-◌, ◌*◌, ◌%◌, ◌^◌, ◌<◌, ◌≤◌, true, false, T, ℤ, pos, negsuc, ◌-ℤ◌, nat_abs, sym, refl, ap, ◌∙◌, subst, one-mul, zero-add, arith, lit<, pow_mono, pow-add, shl_exact, to_z-of_z, w64, Fits, SFits, to_z, of_z, ltb-true, le-ltb}
+use lib.Signed.{mag, lt_z, non_neg}
 use mir.Facts.{to_z_pos}
 use Rattle.words.specs.Word.{word, widen}
 
@@ -48,6 +48,54 @@ half_of width h l =
     let d : 2 ^ width ≡ 2 ^ (k + 1) = ap (λ (x : ℕ). 2 ^ x) (omega arith) in
     let m : k ≤ 31 = omega arith in
     record { is = e; twice = omega (arith, pow-add 2 k 1); small = rw e (pow_mono m) }
+
+-- z's two's complement
+flip : (z : ℤ) → lt_z z (pos 0) ≡ true → negsuc 0 -ℤ z ≡ pos (mag z)
+flip (pos n) e = let h : n < 0 = ltb-true n 0 e in let b : ⊥ = omega arith in absurd b
+flip (negsuc n) e = simp (le-ltb (suc n) 1 (omega arith)) (ap pos (omega arith))
+
+module _ (z : ℤ) (f : SFits w64 z) (t : lt_z (held z) (pos 0) ≡ true) where
+  negative : lt_z z (pos 0) ≡ true
+  negative = subst (λ (y : ℤ). lt_z y (pos 0) ≡ true) (to_z-of_z f) t
+
+  flipped : negsuc 0 -ℤ held z ≡ pos (mag z)
+  flipped = ap (λ (y : ℤ). negsuc 0 -ℤ y) (to_z-of_z f) ∙ flip z negative
+
+  pub flip_fits : SFits w64 (negsuc 0 -ℤ held z)
+  flip_fits = subst (λ (y : ℤ). SFits w64 y) (sym flipped) (record { sfits = f.sfits })
+
+  read : held (negsuc 0 -ℤ held z) ≡ pos (mag z)
+  read = to_z-of_z flip_fits ∙ flipped
+
+  pub flip_cast : T (non_neg (held (negsuc 0 -ℤ held z))) × Fits w64 (nat_abs (held (negsuc 0 -ℤ held z)))
+  flip_cast =
+      subst (λ (y : ℤ). T (non_neg y) × Fits w64 (nat_abs y)) (sym read) (tt, record { fits = omega (arith, f.sfits) })
+
+  pub flip_size : nat_abs (held (negsuc 0 -ℤ held z)) ≤ 18446744073709551615
+  flip_size = subst (λ (y : ℤ). nat_abs y ≤ 18446744073709551615) (sym read) (omega (arith, f.sfits))
+
+  pub flip_bits : 18446744073709551615 - nat_abs (held (negsuc 0 -ℤ held z)) ≡ widen z
+  unfolding widen
+  flip_bits = ap (λ (y : ℤ). 18446744073709551615 - nat_abs y) read ∙ same z negative
+    where
+      same : (y : ℤ) → lt_z y (pos 0) ≡ true → 18446744073709551615 - mag y ≡ widen y
+      same (pos n) e = let h : n < 0 = ltb-true n 0 e in absurd (omega arith)
+      same (negsuc n) e = refl
+
+module _ (z : ℤ) (f : SFits w64 z) (t : lt_z (held z) (pos 0) ≡ false) where
+  plain : (y : ℤ) → mag y < 2 ^ 63 → lt_z y (pos 0) ≡ false → (T (non_neg y) × Fits w64 (nat_abs y)) × (nat_abs y ≡ widen y)
+  unfolding widen
+  plain (pos n) h e = ((tt, record { fits = omega arith }), omega arith)
+  plain (negsuc n) h e = let q : ◌≡◌ {A = ℕ} 0 1 = cc in let b : ⊥ = omega arith in absurd b
+
+  both : (T (non_neg z) × Fits w64 (nat_abs z)) × (nat_abs z ≡ widen z)
+  both = plain z f.sfits (subst (λ (y : ℤ). lt_z y (pos 0) ≡ false) (to_z-of_z f) t)
+
+  pub plain_cast : T (non_neg (held z)) × Fits w64 (nat_abs (held z))
+  plain_cast = subst (λ (y : ℤ). T (non_neg y) × Fits w64 (nat_abs y)) (sym (to_z-of_z f)) both.0
+
+  pub plain_bits : nat_abs (held z) ≡ widen z
+  plain_bits = ap nat_abs (to_z-of_z f) ∙ both.1
 
 -- the 64 bits that hold z
 bits_of : (z : ℤ) → mag z < 2 ^ 63 → of_z w64 z ≡ widen z

@@ -12,7 +12,7 @@ use Rattle.std.specs.Slice.Iter.{chunks_exact_size, chunks_exact_rest, chunks_ex
 use Rattle.boxes.specs.Boxes.{◌⋯◌}
 use Rattle.calls.specs.Call.{box_of}
 use Rattle.calls.proofs.Pairs.{box_short, box_more}
-use Rattle.counting.proofs.Products.{none_multiplied, all_multiplied, in_order, one_multiplied, wide_over, product_over, size_fits_lem}
+use Rattle.counting.proofs.Products.{begin_multiplied, all_multiplied, in_order, one_multiplied, wide_over, product_over, size_fits_lem}
 use Rattle.counting.proofs.sizes.box_size.Goals as goal
 
 next : (s t : ChunksExact ℕ) (p : Bor (List ℕ)) → chunks_exact_steps s (Some p) t → chunks_exact_size s ≡ 2
@@ -22,7 +22,7 @@ next s t p h two = ap box_of h.1.0 ∙ box_more p.now (chunks_exact_rest t) (h.1
 pub loop-pair-init : goal.loop-pair-init
 loop-pair-init c =
     let s = c.chunks_exact-pair-items.ensures in
-    rw (c.into_iter-pair-iterator.ensures.into_iter_gives, s.rest) (s.size, omega arith, none_multiplied (box_of c.args.intervals.now) c.requires)
+    rw (c.into_iter-pair-iterator.ensures.into_iter_gives, s.rest) (s.size, omega arith, begin_multiplied (box_of c.args.intervals.now) c.requires)
 
 pub overflow_sub-more : goal.overflow_sub-more
 overflow_sub-more c =

@@ -2,11 +2,11 @@
 -- Assumes nothing.
 use native.Mathlib.Omega.{arith}
 use Rattle.blocks.specs.Report.{record_at}
-use Rattle.counting.proofs.Products.{none_multiplied, all_multiplied, in_order, product_fits, width_fits, one_multiplied, next_interval, none_left}
+use Rattle.counting.proofs.Products.{begin_multiplied, all_multiplied, in_order, product_fits, width_fits, one_multiplied, next_interval, none_left}
 use Rattle.counting.proofs.sizes.path_size.Goals as goal
 
 pub loop-i-init : goal.loop-i-init
-loop-i-init c = none_multiplied _ c.requires.2.proper
+loop-i-init c = begin_multiplied _ c.requires.2.proper
 
 pub overflow_sub-n : goal.overflow_sub-n
 overflow_sub-n c =
