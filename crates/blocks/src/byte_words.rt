@@ -5,12 +5,14 @@ ghost use Rattle.blocks.specs.Working.Writing.{put};
 
 use crate::WORD_BYTES;
 
-// The word of the eight bytes from `at` on.
+// The word of the eight bytes from `at` on. By a copy and not `first_chunk().unwrap()`, which tests the length again.
 pub fn word_at(bytes: &[u8], at: usize) -> u64
     requires { at + word_bytes ≤ length bytes.now }
     ensures { result ≡ word_at (drop at bytes.now) 0 }
 {
-    u64::from_le_bytes(*bytes[at..].first_chunk().unwrap())
+    let mut word = [0u8; WORD_BYTES];
+    word.copy_from_slice(&bytes[at..at + WORD_BYTES]);
+    u64::from_le_bytes(word)
 }
 
 // Writes a word as eight bytes from `at` on.
