@@ -6,7 +6,7 @@
 ghost use Rattle.std.specs.Prelude.{◌≡◌, ◌+◌, ◌<◌, ◌≤◌, ◌^◌, ◌-◌, ◌%◌, ◌==◌, cond, drop, length, position, MatchOption};
 ghost use Rattle.std.specs.Fn.{FnOnceReturnsAt};
 ghost use Rattle.std.specs.Iterator.{at_most};
-ghost use Rattle.vectors.specs.Working.Running.{RanOnAll};
+ghost use Rattle.vectors.specs.Working.Running.{RanToEnd};
 ghost use Rattle.vectors.specs.Working.Text.{digit_of, number_from, IsFirstLine};
 
 use input::{ROOM, read_full};
@@ -150,7 +150,7 @@ pub fn run_table<R: Input + Print, F: FnOnce(&[u8]) -> io::Result<()>>(
     run: F,
 ) -> io::Result<()>
     requires { F.IsAlwaysCallable run }
-    ensures { RanOnAll R.Reader.remaining 65536 (FnOnceReturnsAt F.FnOnce run) result }
+    ensures { RanToEnd R.Reader.remaining 65536 (FnOnceReturnsAt F.FnOnce run) result }
 {
     let mut buffer = [0u8; ROOM];
     let n = read_full(&mut rt.reader(), &mut buffer)?;
